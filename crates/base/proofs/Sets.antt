@@ -1,0 +1,107 @@
+-- What is in a set that is made of others by `&`, `|` and a shift, and when two sets are one.
+use mathlib.Core.Path.{_≡_, refl, sym, ap, _∙_, subst}
+use mathlib.Core.Logic.{_⊎_, inl, inr, ⊎-elim}
+use Prim.Native.Nat.{ℕ, zero, suc, _+_, _-_, _*_, _/_, _%_, _^_, _≤_, _<_, min, max}
+use native.Mathlib.Nat.{div-eq-of-lt, mod-lt, mul-div-cancel, div-self, div-div-eq-div-mul, pow-suc, pow-zero, mul-comm, div-one, zero-div, pow-le-pow-right}
+use native.Mathlib.Omega.{arith}
+use native.Mathlib.Decide.{decLt, ℕ-discrete}
+use lib.Arith.{bin-ind}
+use lib.Pow.{pow-pos, pow-add, pow-mono, ones-split, ones-lt, high}
+use lib.Bits.{bitAnd, bitOr, and-shr, or-shr, and-step, or-step}
+use Rattle.base.specs.Bits.{Has, Subset}
+use Rattle.base.specs.Words.{Iff}
+
+-- a bit is 0 or 1
+pub has-or-not : (s i : ℕ) → Has s i ⊎ (Has s i → ⊥)
+has-or-not s i =
+    let small : (s / 2 ^ i) % 2 < 2 = mod-lt (s / 2 ^ i) (omega arith) in
+    elim (ℕ-discrete ((s / 2 ^ i) % 2) 1) [ yes e ↦ inl e | no n ↦ inr n ]
+
+pub has-zero : (i : ℕ) → Has 0 i → ⊥
+has-zero i h = omega (arith, h, zero-div (2 ^ i))
+
+-- the first place, and the places after it
+pub has-first : (s : ℕ) → Iff (Has s 0) (s % 2 ≡ 1)
+has-first s = (λ h. rw div-one at h, λ h. rw div-one h)
+
+pub has-next : (s i : ℕ) → s / 2 ^ suc i ≡ s / 2 / 2 ^ i
+has-next s i = ap (λ (x : ℕ). s / x) (pow-suc 2 i ∙ mul-comm (2 ^ i) 2) ∙ sym (div-div-eq-div-mul s 2 (2 ^ i))
+
+and-digit : (a b : ℕ) → bitAnd a b % 2 ≡ min (a % 2) (b % 2)
+and-digit a b = omega (arith, and-step a b)
+
+or-digit : (a b : ℕ) → bitOr a b % 2 ≡ max (a % 2) (b % 2)
+or-digit a b = omega (arith, or-step a b)
+
+digits-both : (x y : ℕ) → Iff (min (x % 2) (y % 2) ≡ 1) ((x % 2 ≡ 1) × (y % 2 ≡ 1))
+digits-both x y = omega arith
+
+digits-one : (x y : ℕ) → max (x % 2) (y % 2) ≡ 1 → (x % 2 ≡ 1) ⊎ (y % 2 ≡ 1)
+digits-one x y h =
+    elim (ℕ-discrete (x % 2) 1) [ yes e ↦ inl e | no n ↦ inr (omega arith) ]
+
+-- an intersection
+pub has-and : (a b i : ℕ) → Iff (Has (bitAnd a b) i) (Has a i × Has b i)
+has-and a b i = simp (and-shr, and-digit) (digits-both (a / 2 ^ i) (b / 2 ^ i))
+
+-- a union
+pub has-or : (a b i : ℕ) → Has (bitOr a b) i → Has a i ⊎ Has b i
+has-or a b i h = digits-one (a / 2 ^ i) (b / 2 ^ i) (simp (or-shr, or-digit) at h)
+
+pub has-or-left : (a b i : ℕ) → Has a i → Has (bitOr a b) i
+has-or-left a b i h = simp (or-shr, or-digit) (omega arith)
+
+pub has-or-right : (a b i : ℕ) → Has b i → Has (bitOr a b) i
+has-or-right a b i h = simp (or-shr, or-digit) (omega arith)
+
+-- a set below 2 ^ n holds places below n, and only those
+pub has-below : (n s i : ℕ) → s < 2 ^ n → Has s i → i < n
+has-below n s i small h =
+    elim (decLt i n)
+      [ yes lt ↦ lt
+      | no ge ↦
+        let p : 2 ^ n ≤ 2 ^ i = pow-mono (omega arith) in
+        let none : s / 2 ^ i ≡ 0 = div-eq-of-lt (omega arith) in
+        absurd (omega (arith, none))
+      ]
+
+-- sets with the same places are one
+pub same-set : (a b : ℕ) → ((i : ℕ) → Iff (Has a i) (Has b i)) → a ≡ b
+same-set = bin-ind (λ a. (b : ℕ) → ((i : ℕ) → Iff (Has a i) (Has b i)) → a ≡ b) empty step
+  where
+    tail : (a b : ℕ) → ((i : ℕ) → Iff (Has a i) (Has b i)) → (i : ℕ) → Iff (Has (a / 2) i) (Has (b / 2) i)
+    tail a b same i = simp has-next at (same (suc i))
+    first : (a b : ℕ) → ((i : ℕ) → Iff (Has a i) (Has b i)) → a % 2 ≡ b % 2
+    first a b same = let both : Iff (a % 2 ≡ 1) (b % 2 ≡ 1) = simp div-one at (same 0) in elim (ℕ-discrete (a % 2) 1) [ yes e ↦ omega (arith, both .0 e) | no n ↦ elim (ℕ-discrete (b % 2) 1) [ yes e ↦ omega (arith, both .1 e) | no m ↦ omega arith ] ]
+    empty : (b : ℕ) → ((i : ℕ) → Iff (Has 0 i) (Has b i)) → 0 ≡ b
+    empty = bin-ind (λ b. ((i : ℕ) → Iff (Has 0 i) (Has b i)) → 0 ≡ b) (λ same. refl) (λ b rest same. omega (arith, rest (tail 0 b same), first 0 b same))
+    step : (n : ℕ) → ((b : ℕ) → ((i : ℕ) → Iff (Has (n / 2) i) (Has b i)) → n / 2 ≡ b) → (b : ℕ) → ((i : ℕ) → Iff (Has n i) (Has b i)) → n ≡ b
+    step a rest b same = omega (arith, rest (b / 2) (tail a b same), first a b same)
+
+-- the set of one place
+pub has-single : (k i : ℕ) → Iff (Has (2 ^ k) i) (i ≡ k)
+has-single k i = (only, λ e. rw e (omega (arith, div-self (pow-pos k))))
+  where
+    only : Has (2 ^ k) i → i ≡ k
+    only h =
+        elim (decLt i k)
+          [ yes lt ↦
+            let halves : 2 ^ k ≡ 2 ^ (k - i) * 2 ^ i = ap (λ (x : ℕ). 2 ^ x) (omega arith) ∙ pow-add 2 (k - i) i in
+            let rest : 2 ^ (k - i) ≡ 2 * 2 ^ (k - i - 1) = ap (λ (x : ℕ). 2 ^ x) (omega arith) ∙ pow-suc 2 (k - i - 1) ∙ mul-comm (2 ^ (k - i - 1)) 2 in
+            let shifted : 2 ^ k / 2 ^ i ≡ 2 ^ (k - i) = ap (λ (x : ℕ). x / 2 ^ i) halves ∙ mul-div-cancel (2 ^ (k - i)) (pow-pos i) in
+            absurd (omega (arith, shifted, rest))
+          | no ge ↦
+            let below : i < suc k = has-below (suc k) (2 ^ k) i (omega (arith, pow-suc 2 k, pow-pos k)) h in
+            omega arith
+          ]
+
+-- the set of the places below n
+pub has-ones : (n i : ℕ) → Iff (Has (2 ^ n - 1) i) (i < n)
+has-ones n i = (has-below n (2 ^ n - 1) i (omega (arith, pow-pos n)), all)
+  where
+    all : i < n → Has (2 ^ n - 1) i
+    all lt =
+        let split : 2 ^ n - 1 ≡ (2 ^ (n - i) - 1) * 2 ^ i + (2 ^ i - 1) = ap (λ (x : ℕ). 2 ^ x - 1) (omega arith) ∙ ones-split (n - i) i in
+        let shifted : (2 ^ n - 1) / 2 ^ i ≡ 2 ^ (n - i) - 1 = ap (λ (x : ℕ). x / 2 ^ i) split ∙ high (2 ^ (n - i) - 1) i (ones-lt i) in
+        let even : 2 ^ (n - i) ≡ 2 * 2 ^ (n - i - 1) = ap (λ (x : ℕ). 2 ^ x) (omega arith) ∙ pow-suc 2 (n - i - 1) ∙ mul-comm (2 ^ (n - i - 1)) 2 in
+        omega (arith, shifted, even, pow-pos (n - i - 1))

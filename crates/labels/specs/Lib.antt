@@ -1,0 +1,4 @@
+pub mod Order
+pub mod Chain
+pub mod Sets
+pub mod Fault
