@@ -2,7 +2,7 @@
 use mathlib.Core.Path.{_≡_, refl, sym, ap, _∙_, subst}
 use mathlib.Core.Logic.{_⊎_, inl, inr, ⊎-elim}
 use Prim.Native.Nat.{ℕ, zero, suc, _+_, _-_, _*_, _/_, _%_, _^_, _≤_, _<_, min, max}
-use native.Mathlib.Nat.{div-eq-of-lt, mod-lt, mul-div-cancel, div-self, div-div-eq-div-mul, pow-suc, pow-zero, mul-comm, div-one, zero-div, pow-le-pow-right}
+use native.Mathlib.Nat.{div-eq-of-lt, mod-lt, mul-div-cancel, div-self, div-div-eq-div-mul, pow-suc, pow-zero, mul-comm, div-one, zero-div, le-div-iff-mul-le}
 use native.Mathlib.Omega.{arith}
 use native.Mathlib.Decide.{decLt, ℕ-discrete}
 use lib.Arith.{bin-ind}
@@ -105,3 +105,37 @@ has-ones n i = (has-below n (2 ^ n - 1) i (omega (arith, pow-pos n)), all)
         let shifted : (2 ^ n - 1) / 2 ^ i ≡ 2 ^ (n - i) - 1 = ap (λ (x : ℕ). x / 2 ^ i) split ∙ high (2 ^ (n - i) - 1) i (ones-lt i) in
         let even : 2 ^ (n - i) ≡ 2 * 2 ^ (n - i - 1) = ap (λ (x : ℕ). 2 ^ x) (omega arith) ∙ pow-suc 2 (n - i - 1) ∙ mul-comm (2 ^ (n - i - 1)) 2 in
         omega (arith, shifted, even, pow-pos (n - i - 1))
+
+-- a set without one of its places
+pub has-without : (i s k : ℕ) → Has s i → Iff (Has (s - 2 ^ i) k) (Has s k × (k ≡ i → ⊥))
+has-without zero s zero h =
+    let odd : s % 2 ≡ 1 = has-first s .0 h in
+    (λ g. absurd (omega (arith, has-first (s - 1) .0 g)), λ p. absurd (p .1 refl))
+has-without zero s (suc k) h =
+    let odd : s % 2 ≡ 1 = has-first s .0 h in
+    let rest : (s - 1) / 2 ≡ s / 2 = omega arith in
+    simp (has-next, rest) (λ g. (g, λ e. omega arith), λ p. p .0)
+has-without (suc i) s k h =
+    let g : Has (s / 2) i = rw has-next at h in
+    let some : 1 ≤ s / 2 / 2 ^ i = omega arith in
+    let enough : 1 * 2 ^ i ≤ s / 2 = le-div-iff-mul-le (pow-pos i) .0 some in
+    let twice = pow-suc 2 i in
+    let rest : (s - 2 ^ suc i) / 2 ≡ s / 2 - 2 ^ i = omega arith in
+    let low : (s - 2 ^ suc i) % 2 ≡ s % 2 = omega arith in
+    shifted k rest low (has-without i (s / 2))
+  where
+    shifted : (k : ℕ) → (s - 2 ^ suc i) / 2 ≡ s / 2 - 2 ^ i → (s - 2 ^ suc i) % 2 ≡ s % 2
+        → ((k : ℕ) → Has (s / 2) i → Iff (Has (s / 2 - 2 ^ i) k) (Has (s / 2) k × (k ≡ i → ⊥)))
+        → Iff (Has (s - 2 ^ suc i) k) (Has s k × (k ≡ suc i → ⊥))
+    shifted zero rest low ih = simp (div-one, low) (λ e. (e, λ z. omega arith), λ p. p .0)
+    shifted (suc k) rest low ih =
+        let both = ih k (rw has-next at h) in
+        simp (has-next, rest) (λ a. (both .0 a .0, λ e. both .0 a .1 (omega arith)), λ p. both .1 (p .0, λ e. p .1 (ap suc e)))
+
+-- a set that is not empty has a place
+pub some-place : (s : ℕ) → (s ≡ 0) ⊎ ((i : ℕ) × Has s i)
+some-place = bin-ind (λ s. (s ≡ 0) ⊎ ((i : ℕ) × Has s i)) (inl refl) step
+  where
+    step : (s : ℕ) → (s / 2 ≡ 0) ⊎ ((i : ℕ) × Has (s / 2) i) → (s ≡ 0) ⊎ ((i : ℕ) × Has s i)
+    step s (inr (i, h)) = inr (suc i, rw has-next h)
+    step s (inl e) = elim (ℕ-discrete (s % 2) 1) [ yes odd ↦ inr (0, has-first s .1 odd) | no even ↦ inl (omega arith) ]

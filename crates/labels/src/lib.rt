@@ -2,3 +2,4 @@
 pub mod fault;
 pub mod kind;
 pub mod chain;
+pub mod sets;
