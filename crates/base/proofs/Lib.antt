@@ -1,3 +1,4 @@
 pub mod Sets
 pub mod Tests
 pub mod Ones
+pub mod Tables

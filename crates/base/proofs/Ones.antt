@@ -43,16 +43,16 @@ one-count = bin-ind (λ s. Single s → ones s ≤ 1) (λ h. omega arith) step
     step : (s : ℕ) → (Single (s / 2) → ones (s / 2) ≤ 1) → Single s → ones s ≤ 1
     step s rest one =
         let half = rest (λ i j p q. omega (arith, one (suc i) (suc j) (rw has-next p) (rw has-next q))) in
-        elim (ℕ-discrete (s % 2) 1)
-          [ yes odd ↦
-            elim (ℕ-discrete (ones (s / 2)) 0)
-              [ yes none ↦ omega (arith, ones-step s)
-              | no some ↦
-                let (i, h) = some-ones (s / 2) (omega arith) in
-                absurd (omega (arith, one 0 (suc i) (has-first s .1 odd) (rw has-next h)))
+        elim (ℕ-discrete (s % 2) 1) [
+          | yes odd ↦
+              elim (ℕ-discrete (ones (s / 2)) 0) [
+                | yes none ↦ omega (arith, ones-step s)
+                | no some ↦
+                    let (i, h) = some-ones (s / 2) (omega arith) in
+                    absurd (omega (arith, one 0 (suc i) (has-first s .1 odd) (rw has-next h)))
               ]
           | no even ↦ omega (arith, ones-step s)
-          ]
+        ]
 
 -- a set has at most one place exactly when its bits say so
 pub ones-single : (s : ℕ) → Iff (ones s ≤ 1) (Single s)

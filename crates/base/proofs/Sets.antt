@@ -57,13 +57,13 @@ has-or-right a b i h = simp (or-shr, or-digit) (omega arith)
 -- a set below 2 ^ n holds places below n, and only those
 pub has-below : (n s i : ℕ) → s < 2 ^ n → Has s i → i < n
 has-below n s i small h =
-    elim (decLt i n)
-      [ yes lt ↦ lt
+    elim (decLt i n) [
+      | yes lt ↦ lt
       | no ge ↦
-        let p : 2 ^ n ≤ 2 ^ i = pow-mono (omega arith) in
-        let none : s / 2 ^ i ≡ 0 = div-eq-of-lt (omega arith) in
-        absurd (omega (arith, none))
-      ]
+          let p : 2 ^ n ≤ 2 ^ i = pow-mono (omega arith) in
+          let none : s / 2 ^ i ≡ 0 = div-eq-of-lt (omega arith) in
+          absurd (omega (arith, none))
+    ]
 
 -- sets with the same places are one
 pub same-set : (a b : ℕ) → ((i : ℕ) → Iff (Has a i) (Has b i)) → a ≡ b
@@ -71,10 +71,13 @@ same-set = bin-ind (λ a. (b : ℕ) → ((i : ℕ) → Iff (Has a i) (Has b i)) 
   where
     tail : (a b : ℕ) → ((i : ℕ) → Iff (Has a i) (Has b i)) → (i : ℕ) → Iff (Has (a / 2) i) (Has (b / 2) i)
     tail a b same i = simp has-next at (same (suc i))
+
     first : (a b : ℕ) → ((i : ℕ) → Iff (Has a i) (Has b i)) → a % 2 ≡ b % 2
     first a b same = let both : Iff (a % 2 ≡ 1) (b % 2 ≡ 1) = simp div-one at (same 0) in elim (ℕ-discrete (a % 2) 1) [ yes e ↦ omega (arith, both .0 e) | no n ↦ elim (ℕ-discrete (b % 2) 1) [ yes e ↦ omega (arith, both .1 e) | no m ↦ omega arith ] ]
+
     empty : (b : ℕ) → ((i : ℕ) → Iff (Has 0 i) (Has b i)) → 0 ≡ b
     empty = bin-ind (λ b. ((i : ℕ) → Iff (Has 0 i) (Has b i)) → 0 ≡ b) (λ same. refl) (λ b rest same. omega (arith, rest (tail 0 b same), first 0 b same))
+
     step : (n : ℕ) → ((b : ℕ) → ((i : ℕ) → Iff (Has (n / 2) i) (Has b i)) → n / 2 ≡ b) → (b : ℕ) → ((i : ℕ) → Iff (Has n i) (Has b i)) → n ≡ b
     step a rest b same = omega (arith, rest (b / 2) (tail a b same), first a b same)
 
@@ -84,16 +87,16 @@ has-single k i = (only, λ e. rw e (omega (arith, div-self (pow-pos k))))
   where
     only : Has (2 ^ k) i → i ≡ k
     only h =
-        elim (decLt i k)
-          [ yes lt ↦
-            let halves : 2 ^ k ≡ 2 ^ (k - i) * 2 ^ i = ap (λ (x : ℕ). 2 ^ x) (omega arith) ∙ pow-add 2 (k - i) i in
-            let rest : 2 ^ (k - i) ≡ 2 * 2 ^ (k - i - 1) = ap (λ (x : ℕ). 2 ^ x) (omega arith) ∙ pow-suc 2 (k - i - 1) ∙ mul-comm (2 ^ (k - i - 1)) 2 in
-            let shifted : 2 ^ k / 2 ^ i ≡ 2 ^ (k - i) = ap (λ (x : ℕ). x / 2 ^ i) halves ∙ mul-div-cancel (2 ^ (k - i)) (pow-pos i) in
-            absurd (omega (arith, shifted, rest))
+        elim (decLt i k) [
+          | yes lt ↦
+              let halves : 2 ^ k ≡ 2 ^ (k - i) * 2 ^ i = ap (λ (x : ℕ). 2 ^ x) (omega arith) ∙ pow-add 2 (k - i) i in
+              let rest : 2 ^ (k - i) ≡ 2 * 2 ^ (k - i - 1) = ap (λ (x : ℕ). 2 ^ x) (omega arith) ∙ pow-suc 2 (k - i - 1) ∙ mul-comm (2 ^ (k - i - 1)) 2 in
+              let shifted : 2 ^ k / 2 ^ i ≡ 2 ^ (k - i) = ap (λ (x : ℕ). x / 2 ^ i) halves ∙ mul-div-cancel (2 ^ (k - i)) (pow-pos i) in
+              absurd (omega (arith, shifted, rest))
           | no ge ↦
-            let below : i < suc k = has-below (suc k) (2 ^ k) i (omega (arith, pow-suc 2 k, pow-pos k)) h in
-            omega arith
-          ]
+              let below : i < suc k = has-below (suc k) (2 ^ k) i (omega (arith, pow-suc 2 k, pow-pos k)) h in
+              omega arith
+        ]
 
 -- the set of the places below n
 pub has-ones : (n i : ℕ) → Iff (Has (2 ^ n - 1) i) (i < n)

@@ -26,8 +26,8 @@ module _ (n : ℕ) where
   chain-prime u l = record {
     known = l;
     splits = λ a b j least below.
-      elim (decLe a b)
-        [ yes h ↦ let up = least .least b (under h (least .right .low)) (under (omega arith) (least .right .low)) in inr (omega arith)
-        | no h ↦ let up = least .least a (under (omega arith) (least .left .low)) (under (omega arith) (least .left .low)) in inl (omega arith)
+        elim (decLe a b) [
+          | yes h ↦ let up = least .least b (under h (least .right .low)) (under (omega arith) (least .right .low)) in inr (omega arith)
+          | no h ↦ let up = least .least a (under (omega arith) (least .left .low)) (under (omega arith) (least .left .low)) in inl (omega arith)
         ];
   }

@@ -15,10 +15,10 @@ use Rattle.labels.specs.Sets.{sets, SetsSize}
 
 -- inclusion, as the code tests it
 pub and-subset : (a b : ℕ) → Iff (bitAnd a b ≡ a) (Subset a b)
-and-subset a b =
-    ( λ e i h. has-and a b i .0 (rw e h) .1
-    , λ sub. same-set (bitAnd a b) a (λ i. (λ h. has-and a b i .0 h .0, λ h. has-and a b i .1 (h, sub i h)))
-    )
+and-subset a b = (
+  λ e i h. has-and a b i .0 (rw e h) .1,
+  λ sub. same-set (bitAnd a b) a (λ i. (λ h. has-and a b i .0 h .0, λ h. has-and a b i .1 (h, sub i h))),
+)
 
 module _ (r : ℕ) where
   under : (a b : ℕ) → a < 2 ^ r → b < 2 ^ r → Subset a b → Under (sets r) a b
@@ -65,19 +65,20 @@ module _ (r : ℕ) where
     where
       within : (a i : ℕ) → a < 2 ^ r → Has u i → Has a i → Under (sets r) u a
       within a i la h g = under u a l la (λ k p. subst (λ (x : ℕ). Has a x) (one i k h p) g)
+
       splits : (a b j : ℕ) → Least (sets r) a b j → Under (sets r) u j → Under (sets r) u a ⊎ Under (sets r) u b
       splits a b j least below =
           let la = least .left .low in
           let lb = least .right .low in
           let union = or-least a b la lb in
           let inside = least .least (bitOr a b) (union .left) (union .right) in
-          elim (some-place u)
-            [ inl e ↦ inl (under u a l la (λ i h. absurd (has-zero i (subst (λ (x : ℕ). Has x i) e h))))
+          elim (some-place u) [
+            | inl e ↦ inl (under u a l la (λ i h. absurd (has-zero i (subst (λ (x : ℕ). Has x i) e h))))
             | inr p ↦
-              let i = p .0 in
-              ⊎-elim (λ g. inl (within a i la (p .1) g)) (λ g. inr (within b i lb (p .1) g))
+                let i = p .0 in
+                ⊎-elim (λ g. inl (within a i la (p .1) g)) (λ g. inr (within b i lb (p .1) g))
                 (has-or a b i (inside .order i (below .order i (p .1))))
-            ]
+          ]
 
   -- a join prime set has at most one region: it lies within the union of one of its regions and all the others
   pub prime-single : (u : ℕ) → JoinPrime (sets r) u → Single u
@@ -92,13 +93,13 @@ module _ (r : ℕ) where
       let union = or-least one others l-one l-others in
       let covers : Under (sets r) u (bitOr one others) = under u (bitOr one others) (prime .known) (union .left .high) (λ x p. cover x p) in
       ⊎-elim (λ in-one. sym (has-single i k .0 (in-one .order k g))) (λ in-others. absurd (has-without i top i here .0 (in-others .order i h) .1 refl))
-        (prime .splits one others (bitOr one others) union covers)
+      (prime .splits one others (bitOr one others) union covers)
     where
       cover : (x : ℕ) → Has u x → Has (bitOr (2 ^ i) (2 ^ r - 1 - 2 ^ i)) x
       cover x p =
-          elim (ℕ-discrete x i)
-            [ yes e ↦ has-or-left (2 ^ i) (2 ^ r - 1 - 2 ^ i) x (has-single i x .1 e)
+          elim (ℕ-discrete x i) [
+            | yes e ↦ has-or-left (2 ^ i) (2 ^ r - 1 - 2 ^ i) x (has-single i x .1 e)
             | no other ↦
-              has-or-right (2 ^ i) (2 ^ r - 1 - 2 ^ i) x
+                has-or-right (2 ^ i) (2 ^ r - 1 - 2 ^ i) x
                 (has-without i (2 ^ r - 1) x (has-ones r i .1 (has-below r u i (prime .known) h)) .1 (has-ones r x .1 (has-below r u x (prime .known) p), other))
-            ]
+          ]

@@ -1,4 +1,5 @@
 pub mod Order
 pub mod Chain
 pub mod Sets
+pub mod House
 pub mod Fault

@@ -1,5 +1,6 @@
 // Labels: the four label kinds, behind one interface.
-pub mod fault;
-pub mod kind;
 pub mod chain;
+pub mod fault;
+pub mod house;
+pub mod kind;
 pub mod sets;
