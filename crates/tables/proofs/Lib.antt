@@ -1,0 +1,3 @@
+pub mod Matrix
+pub mod OneProof
+pub mod Chains
