@@ -1,3 +1,5 @@
 pub mod Matrix
 pub mod OneProof
 pub mod Chains
+pub mod Links
+pub mod Joins

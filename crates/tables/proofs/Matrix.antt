@@ -86,7 +86,7 @@ module _ (n : ℕ) (old new : List ℕ) (low high : ℕ) (inside : Inside n old)
       ]
 
   -- no two different labels are below each other, unless high was below low before
-  module _ (apart : (low ≡ high → ⊥) → Marked old high low → ⊥) where
+  module _ (apart : (low ≡ high → ⊥) × Marked old high low → ⊥) where
     -- a pair of one label twice adds nothing
     nothing-new : low ≡ high → (a b : ℕ) → Under (matrix n new) a b → Under (matrix n old) a b
     nothing-new e a b p =
@@ -95,7 +95,7 @@ module _ (n : ℕ) (old new : List ℕ) (low high : ℕ) (inside : Inside n old)
         [ inl o ↦ o | inr (s, t) ↦ join a low b s (subst (λ (x : ℕ). Marked old x b) (sym e) t) ])
 
     no-return : (low ≡ high → ⊥) → (x : ℕ) → Marked old high x → Marked old x low → ⊥
-    no-return ne x p q = apart ne (join high x low p q)
+    no-return ne x p q = apart (ne, join high x low p q)
 
     linked-antisymmetric : (a b : ℕ) → Under (matrix n new) a b → Under (matrix n new) b a → a ≡ b
     linked-antisymmetric a b p q =

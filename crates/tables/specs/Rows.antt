@@ -7,7 +7,10 @@ use lib.ListN.{getD}
 use Rattle.base.specs.Bits.{Has}
 use Rattle.base.specs.Words.{Iff}
 use Rattle.labels.specs.Order.{LabelOrder, Label, Under, Greatest, Least, Top}
-use Rattle.tables.specs.Table.{table}
+use Rattle.labels.specs.declared.fault.KindFault.{KindFault}
+use Rattle.std.specs.declared.result.Result.{Result}
+use Rattle.std.specs.Results.{Cases}
+use Rattle.tables.specs.Table.{table, more, PairTaken, PairRefused}
 
 -- bit b of row a is set
 abbrev pub Marked : List ℕ → ℕ → ℕ → Type 0
@@ -33,6 +36,16 @@ Keeps n rows pairs = (a b : ℕ) → Iff (Marked rows a b) (Under (table n pairs
 -- the new rows are the old ones, with low put below high: whatever is at or below low is at or below what high is below
 abbrev pub Linked : List ℕ → List ℕ → ℕ → ℕ → Type 0
 Linked old new low high = (a b : ℕ) → Iff (Marked new a b) (Marked old a b ⊎ (Marked old a low × Marked old high b))
+
+-- the same order, seen from above
+abbrev pub Flipped : List ℕ → List ℕ → Type 0
+Flipped rows down = (a b : ℕ) → Iff (Marked down b a) (Marked rows a b)
+
+-- a pair is added to whatever pairs the rows keep, or it is refused and the rows keep what they kept
+abbrev pub Added : ℕ → List ℕ → ℕ × ℕ → Result (Unit {0}) KindFault → List ℕ → Type 0
+Added n rows p r after =
+    (pairs : List (ℕ × ℕ)) → Keeps n rows pairs
+    → Cases r (λ _. PairTaken n pairs p × Keeps n after (more pairs p)) (λ f. PairRefused n pairs p f × Keeps n after pairs)
 
 -- what stands in row a, at place b
 abbrev pub entry : List (List ℕ) → ℕ → ℕ → ℕ
