@@ -1,12 +1,14 @@
 -- A rule of a table, shown at all of its entries by one test that the checker computes.
-use mathlib.Core.Path.{_≡_}
+use mathlib.Core.Path.{_≡_, sym, subst}
 use mathlib.Core.Bool.{Bool, true, false, _&&_}
 use mathlib.Core.List.{List, [], _∷_}
 use Prim.Native.Nat.{ℕ, zero, suc, _+_, _<_}
 use native.Mathlib.Nat.{add-zero, zero-add, add-suc, suc-add}
 use native.Mathlib.Omega.{arith}
 use lib.Dec.{T, eqb, eqb→eq}
-use lib.ListN.{length, getD}
+use lib.ListN.{length, getD, set}
+use lib.Seq.{getD-set-same, getD-set-other}
+use native.Mathlib.Decide.{ℕ-discrete}
 
 pub and-left : (a b : Bool) → T (a && b) → T a
 and-left true b t = tt
@@ -30,6 +32,15 @@ module _ {A : Type 0} where
 
   pub at : (f : ℕ → A → Bool) (xs : List A) → T (every f 0 xs) → (d : A) (k : ℕ) → k < length xs → T (f k (getD xs k d))
   at f xs t d k h = rw zero-add at (from f xs 0 t d k h)
+
+-- a rule of the entries below i, once entry i has been written by it
+pub fill-more : {A : Type 0} (P : ℕ → A → Type 0) (xs : List A) (i : ℕ) (v d : A) → i < length xs
+    → ((k : ℕ) → k < i → P k (getD xs k d)) → P i v → (k : ℕ) → k < i + 1 → P k (getD (set xs i v) k d)
+fill-more {A} P xs i v d within done here k h =
+    elim (ℕ-discrete k i)
+      [ yes e ↦ subst (λ (x : ℕ). P x (getD (set xs i v) x d)) (sym e) (rw (getD-set-same xs i v d within) here)
+      | no ne ↦ rw (getD-set-other xs i k v d ne) (done k (omega arith))
+      ]
 
 -- n rows of n numbers, where the test passes at each number, its row and its place
 abbrev pub square : ℕ → (ℕ → ℕ → ℕ → Bool) → List (List ℕ) → Bool

@@ -24,6 +24,19 @@ fn column(rows: &[u32; 32], labels: u32, b: u32) -> u32
     column
 }
 
+// The same order, seen from above: bit a of row b says that a is at or below b.
+pub fn flipped(rows: &[u32; 32], labels: u32) -> [u32; 32]
+    requires sized { ⌜ labels ≤ 32 ⌝ }
+    requires inside { ⌜ Inside labels (now rows) ⌝ }
+    ensures { λ r. ⌜ Flipped (now (rows .entry)) r ⌝ }
+{
+    let mut down = [0; 32];
+    for b in 0..labels {
+        down[b as usize] = column(rows, labels, b);
+    }
+    down
+}
+
 // The least label at or above a and b.
 fn join_of(rows: &[u32; 32], labels: u32, a: u32, b: u32) -> Option<u8>
     requires sized { ⌜ labels ≤ 32 ⌝ }
@@ -39,4 +52,34 @@ fn join_of(rows: &[u32; 32], labels: u32, a: u32, b: u32) -> Option<u8>
         }
     }
     None
+}
+
+// The joins of a with each label, or `None` where a join is missing.
+fn join_row(rows: &[u32; 32], labels: u32, a: u32) -> Option<[u8; 32]>
+    requires sized { ⌜ labels ≤ 32 ⌝ }
+    requires known { ⌜ a < labels ⌝ }
+    requires inside { ⌜ Inside labels (now rows) ⌝ }
+    requires ordered { ⌜ PartialOrder (matrix labels (now rows)) ⌝ }
+    ensures { λ r. ⌜ Cases r ((b : ℕ) × (b < labels) × ((j : ℕ) → Least (matrix labels (now (rows .entry))) a b j → ⊥)) (λ row. (b : ℕ) → b < labels → Least (matrix labels (now (rows .entry))) a b (getD row b 0)) ⌝ }
+{
+    let mut row = [0; 32];
+    for b in 0..labels {
+        row[b as usize] = join_of(rows, labels, a, b)?;
+    }
+    Some(row)
+}
+
+// The joins of all labels, or `None` where a join is missing.
+pub fn join_table(rows: &[u32; 32], labels: u32) -> Option<[[u8; 32]; 32]>
+    requires sized { ⌜ labels ≤ 32 ⌝ }
+    requires inside { ⌜ Inside labels (now rows) ⌝ }
+    requires ordered { ⌜ PartialOrder (matrix labels (now rows)) ⌝ }
+    ensures { λ r. ⌜ Cases r ((a : ℕ) × (b : ℕ) × (a < labels) × (b < labels) × ((j : ℕ) → Least (matrix labels (now (rows .entry))) a b j → ⊥)) (JoinTable (matrix labels (now (rows .entry)))) ⌝ }
+{
+    let mut table = [[0; 32]; 32];
+    for a in 0..labels {
+        let row = join_row(rows, labels, a)?;
+        table[a as usize] = row;
+    }
+    Some(table)
 }
