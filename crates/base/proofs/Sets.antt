@@ -145,10 +145,10 @@ some-place = bin-ind (λ s. (s ≡ 0) ⊎ ((i : ℕ) × Has s i)) (inl refl) ste
 
 -- a set with one more place
 pub has-with : (s i k : ℕ) → Iff (Has (bitOr s (2 ^ i)) k) (Has s k ⊎ (k ≡ i))
-has-with s i k =
-    ( λ h. ⊎-elim inl (λ g. inr (has-single i k .0 g)) (has-or s (2 ^ i) k h)
-    , ⊎-elim (has-or-left s (2 ^ i) k) (λ e. has-or-right s (2 ^ i) k (has-single i k .1 e))
-    )
+has-with s i k = (
+  λ h. ⊎-elim inl (λ g. inr (has-single i k .0 g)) (has-or s (2 ^ i) k h),
+  ⊎-elim (has-or-left s (2 ^ i) k) (λ e. has-or-right s (2 ^ i) k (has-single i k .1 e)),
+)
 
 -- the places below i that have the property P, gathered one after the other
 abbrev pub Gathered : (ℕ → Type 0) → ℕ → ℕ → Type 0
@@ -157,13 +157,25 @@ Gathered P s i = (k : ℕ) → Iff (Has s k) ((k < i) × P k)
 module _ (P : ℕ → Type 0) (s i : ℕ) (done : Gathered P s i) where
   pub gather-more : (v : ℕ) → v ≡ 2 ^ i → P i → Gathered P (bitOr s v) (i + 1)
   gather-more v is here k =
-      rw is
-        ( λ h. ⊎-elim (λ g. (omega (arith, done k .0 g .0), done k .0 g .1)) (λ e. (omega arith, subst P (sym e) here)) (has-with s i k .0 h)
-        , λ p. elim (ℕ-discrete k i) [ yes e ↦ has-with s i k .1 (inr e) | no ne ↦ has-with s i k .1 (inl (done k .1 (omega arith, p .1))) ]
-        )
+      rw is (
+        λ h. ⊎-elim (λ g. (omega (arith, done k .0 g .0), done k .0 g .1)) (λ e. (omega arith, subst P (sym e) here)) (has-with s i k .0 h),
+        λ p. elim (ℕ-discrete k i) [ yes e ↦ has-with s i k .1 (inr e) | no ne ↦ has-with s i k .1 (inl (done k .1 (omega arith, p .1))) ],
+      )
 
   pub gather-skip : (P i → ⊥) → Gathered P s (i + 1)
-  gather-skip none k =
-      ( λ h. (omega (arith, done k .0 h .0), done k .0 h .1)
-      , λ p. elim (ℕ-discrete k i) [ yes e ↦ absurd (none (subst P e (p .1))) | no ne ↦ done k .1 (omega arith, p .1) ]
-      )
+  gather-skip none k = (
+    λ h. (omega (arith, done k .0 h .0), done k .0 h .1),
+    λ p. elim (ℕ-discrete k i) [ yes e ↦ absurd (none (subst P e (p .1))) | no ne ↦ done k .1 (omega arith, p .1) ],
+  )
+
+-- the places below n that are not in the set
+pub has-not : (n s i : ℕ) → s < 2 ^ n → i < n → Iff (Has (2 ^ n - 1 - s) i) (Has s i → ⊥)
+has-not zero s i small within = absurd (omega arith)
+has-not (suc n) s zero small within =
+    let twice : 2 ^ suc n ≡ 2 * 2 ^ n = pow-suc 2 n ∙ mul-comm (2 ^ n) 2 in
+    let digit : (2 ^ suc n - 1 - s) % 2 ≡ 1 - s % 2 = omega (arith, twice) in
+    simp div-one (λ h k. omega (arith, digit), λ h. elim (ℕ-discrete (s % 2) 1) [ yes odd ↦ absurd (h odd) | no even ↦ omega (arith, digit) ])
+has-not (suc n) s (suc i) small within =
+    let twice : 2 ^ suc n ≡ 2 * 2 ^ n = pow-suc 2 n ∙ mul-comm (2 ^ n) 2 in
+    let half : (2 ^ suc n - 1 - s) / 2 ≡ 2 ^ n - 1 - s / 2 = omega (arith, twice) in
+    simp (has-next, half) (has-not n (s / 2) i (omega (arith, twice)) (omega arith))

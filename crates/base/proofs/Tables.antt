@@ -37,10 +37,10 @@ module _ {A : Type 0} where
 pub fill-more : {A : Type 0} (P : ℕ → A → Type 0) (xs : List A) (i : ℕ) (v d : A) → i < length xs
     → ((k : ℕ) → k < i → P k (getD xs k d)) → P i v → (k : ℕ) → k < i + 1 → P k (getD (set xs i v) k d)
 fill-more {A} P xs i v d within done here k h =
-    elim (ℕ-discrete k i)
-      [ yes e ↦ subst (λ (x : ℕ). P x (getD (set xs i v) x d)) (sym e) (rw (getD-set-same xs i v d within) here)
+    elim (ℕ-discrete k i) [
+      | yes e ↦ subst (λ (x : ℕ). P x (getD (set xs i v) x d)) (sym e) (rw (getD-set-same xs i v d within) here)
       | no ne ↦ rw (getD-set-other xs i k v d ne) (done k (omega arith))
-      ]
+    ]
 
 -- n rows of n numbers, where the test passes at each number, its row and its place
 abbrev pub square : ℕ → (ℕ → ℕ → ℕ → Bool) → List (List ℕ) → Bool

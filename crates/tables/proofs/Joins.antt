@@ -19,7 +19,7 @@ module _ (n : ℕ) (rows : List ℕ) (inside : Inside n rows) (ordered : Partial
       record {
         left = under n rows inside a j (self .0);
         right = under n rows inside b j (self .1);
-        least = λ c p q. under n rows inside j c (rw e (has-and (getD rows a 0) (getD rows b 0) c .1 (p .order, q .order)))
+        least = λ c p q. under n rows inside j c (rw e (has-and (getD rows a 0) (getD rows b 0) c .1 (p .order, q .order)));
       }
 
   pub join-row : (a b j : ℕ) → Least (matrix n rows) a b j → getD rows j 0 ≡ bitAnd (getD rows a 0) (getD rows b 0)
@@ -29,6 +29,7 @@ module _ (n : ℕ) (rows : List ℕ) (inside : Inside n rows) (ordered : Partial
       to c h =
           let up = under n rows inside j c h in
           has-and (getD rows a 0) (getD rows b 0) c .1 (ordered .transitive a j c (least .left) up .order, ordered .transitive b j c (least .right) up .order)
+
       from : (c : ℕ) → Has (bitAnd (getD rows a 0) (getD rows b 0)) c → Marked rows j c
       from c h =
           let both = has-and (getD rows a 0) (getD rows b 0) c .0 h in

@@ -3,3 +3,4 @@ pub mod OneProof
 pub mod Chains
 pub mod Links
 pub mod Joins
+pub mod Primes

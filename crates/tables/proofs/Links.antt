@@ -32,18 +32,19 @@ module _ (old rows : List ℕ) (low high i : ℕ) (within : i < 32) (done : Link
     where
       row : (b : ℕ) → Iff (Has v b) (Either old low high i b)
       row b =
-          rw is
-            ( λ h. ⊎-elim inl (λ q. inr (under, q)) (has-or (getD old i 0) (getD old high 0) b h)
-            , ⊎-elim (has-or-left (getD old i 0) (getD old high 0) b) (λ p. has-or-right (getD old i 0) (getD old high 0) b (p .1))
-            )
+          rw is (
+            λ h. ⊎-elim inl (λ q. inr (under, q)) (has-or (getD old i 0) (getD old high 0) b h),
+            ⊎-elim (has-or-left (getD old i 0) (getD old high 0) b) (λ p. has-or-right (getD old i 0) (getD old high 0) b (p .1)),
+          )
+
       below : (a b : ℕ) → a < i + 1 → Iff (Marked (set rows i v) a b) (Either old low high a b)
       below a b h =
-          elim (ℕ-discrete a i)
-            [ yes e ↦
-              subst (λ (x : ℕ). Iff (Marked (set rows i v) x b) (Either old low high x b)) (sym e)
+          elim (ℕ-discrete a i) [
+            | yes e ↦
+                subst (λ (x : ℕ). Iff (Marked (set rows i v) x b) (Either old low high x b)) (sym e)
                 (rw (marked-here rows i v b (omega arith)) (row b))
             | no ne ↦ rw (marked-other rows i v a b ne) (done .1 a b (omega arith))
-            ]
+          ]
 
   -- row i is not at or below low, and stays
   pub skip-row : (Marked old i low → ⊥) → LinkedTo old low high rows (i + 1)
@@ -53,9 +54,10 @@ module _ (old rows : List ℕ) (low high i : ℕ) (within : i < 32) (done : Link
       row b =
           let same : Marked rows i b ≡ Marked old i b = ap (λ s. Has s b) (done .2 i (omega arith)) in
           rw same (inl, ⊎-elim (λ h. h) (λ p. absurd (apart (p .0))))
+
       below : (a b : ℕ) → a < i + 1 → Iff (Marked rows a b) (Either old low high a b)
       below a b h =
-          elim (ℕ-discrete a i)
-            [ yes e ↦ subst (λ (x : ℕ). Iff (Marked rows x b) (Either old low high x b)) (sym e) (row b)
+          elim (ℕ-discrete a i) [
+            | yes e ↦ subst (λ (x : ℕ). Iff (Marked rows x b) (Either old low high x b)) (sym e) (row b)
             | no ne ↦ done .1 a b (omega arith)
-            ]
+          ]

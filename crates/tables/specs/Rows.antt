@@ -51,6 +51,14 @@ Added n rows p r after =
 abbrev pub entry : List (List ℕ) → ℕ → ℕ → ℕ
 entry t a b = getD (getD t a []) b 0
 
+-- the same of u, a and b by the rows of the order seen from above
+abbrev pub SplitBits : List ℕ → ℕ → ℕ → ℕ → ℕ → Type 0
+SplitBits down u a b j = Marked down j u → (Marked down a u → ⊥) → Marked down b u
+
+-- each entry is one of n numbers
+abbrev pub Within : ℕ → List (List ℕ) → Type 0
+Within n t = (a b : ℕ) → a < n → b < n → entry t a b < n
+
 module _ (k : LabelOrder) where
   -- the entries are the joins, or the meets, of the labels
   abbrev pub JoinTable : List (List ℕ) → Type 0

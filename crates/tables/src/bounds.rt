@@ -1,14 +1,22 @@
 // Meets and joins in an order that is held as rows of bits: bit b of row a says that a is at or below b.
 ghost use mathlib.Core.List.{List};
 ghost use mathlib.Core.Path.{_≡_};
-ghost use Prim.Native.Nat.{ℕ, _<_, _≤_};
+ghost use Prim.Native.Nat.{ℕ, _-_, _^_, _<_, _≤_};
 ghost use lib.ListN.{getD};
 ghost use Rattle.base.specs.Bits.{Has};
 ghost use Rattle.base.specs.Words.{Iff};
 ghost use Rattle.std.specs.Options.{Cases};
 ghost use Rattle.labels.specs.Order.{Least, Top};
-ghost use Rattle.tables.specs.Rows.{Marked, matrix, Inside, PartialOrder, Flipped, JoinTable};
+ghost use Rattle.tables.specs.Rows.{Marked, matrix, Inside, PartialOrder, Flipped, JoinTable, SplitBits, Within, entry};
 use base::contains;
+
+// The set of all labels.
+fn all(labels: u32) -> u32
+    requires { ⌜ labels ≤ 32 ⌝ }
+    ensures { λ r. ⌜ r ≡ 2 ^ labels - 1 ⌝ }
+{
+    ((1u64 << labels) - 1) as u32
+}
 
 // The labels at or below b.
 fn column(rows: &[u32; 32], labels: u32, b: u32) -> u32
@@ -82,4 +90,46 @@ pub fn join_table(rows: &[u32; 32], labels: u32) -> Option<[[u8; 32]; 32]>
         table[a as usize] = row;
     }
     Some(table)
+}
+
+// The label at or above all the others, where there is one.
+pub fn highest(down: &[u32; 32], labels: u32) -> u32
+    requires sized { ⌜ labels ≤ 32 ⌝ }
+    ensures { λ r. ⌜ ((t : ℕ) → t < labels → getD (now (down .entry)) t 0 ≡ 2 ^ labels - 1 → (r < labels) × (getD (now (down .entry)) r 0 ≡ 2 ^ labels - 1)) ⌝ }
+{
+    let all = all(labels);
+    for t in 0..labels {
+        if down[t as usize] == all {
+            return t;
+        }
+    }
+    0
+}
+
+// The labels that are at or below one of a and b wherever they are at or below the join of the two, for each b.
+fn prime_row(joins: &[[u8; 32]; 32], down: &[u32; 32], labels: u32, a: u32) -> u32
+    requires sized { ⌜ labels ≤ 32 ⌝ }
+    requires known { ⌜ a < labels ⌝ }
+    requires within { ⌜ Within labels (now joins) ⌝ }
+    ensures { λ r. ⌜ ((u : ℕ) → Iff (Has r u) ((u < 32) × ((b : ℕ) → b < labels → SplitBits (now (down .entry)) u a b (entry (now (joins .entry)) a b)))) ⌝ }
+{
+    let mut primes = u32::MAX;
+    for b in 0..labels {
+        let j = joins[a as usize][b as usize];
+        primes &= !down[j as usize] | down[a as usize] | down[b as usize];
+    }
+    primes
+}
+
+// The labels that are at or below one of two labels wherever they are at or below the join of the two.
+pub fn prime_set(joins: &[[u8; 32]; 32], down: &[u32; 32], labels: u32) -> u32
+    requires sized { ⌜ labels ≤ 32 ⌝ }
+    requires within { ⌜ Within labels (now joins) ⌝ }
+    ensures { λ r. ⌜ ((u : ℕ) → Iff (Has r u) ((u < labels) × ((a b : ℕ) → a < labels → b < labels → SplitBits (now (down .entry)) u a b (entry (now (joins .entry)) a b)))) ⌝ }
+{
+    let mut primes = all(labels);
+    for a in 0..labels {
+        primes &= prime_row(joins, down, labels, a);
+    }
+    primes
 }

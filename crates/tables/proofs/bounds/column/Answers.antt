@@ -12,8 +12,8 @@ loop-a-again c =
     let P : ℕ → Type 0 = λ a. Marked (c .args .rows .now) a (c .args .b) in
     let Q : ℕ → Type 0 = λ s. Gathered P s (c .loop-a .a + 1) in
     let within : c .loop-a .a < 32 = omega arith in
-    elim (c .if-contains .came)
-      [ then-contains w ↦
-        subst Q (sym (w .column-is)) (gather-more P _ _ (c .loop-a .inv) _ (one-shl (c .loop-a .a) 32 within) (w .if-contains .ensures tt .0 tt))
+    elim (c .if-contains .came) [
+      | then-contains w ↦
+          subst Q (sym (w .column-is)) (gather-more P _ _ (c .loop-a .inv) _ (one-shl (c .loop-a .a) 32 within) (w .if-contains .ensures tt .0 tt))
       | else-contains w ↦ subst Q (sym (w .column-is)) (gather-skip P _ _ (c .loop-a .inv) (w .if-contains .ensures tt .1))
-      ]
+    ]

@@ -16,7 +16,7 @@ returns-in-Break-row c =
 pub loop-a-again : need.loop-a-again
 loop-a-again c =
     let P : ℕ → List ℕ → Type 0 =
-      λ a row. (b : ℕ) → b < c .args .labels → Least (matrix (c .args .labels) (c .args .rows .now)) a b (getD row b 0) in
-    ( length-set (c .loop-a .table) (c .loop-a .a) _ ∙ c .loop-a .inv .0
-    , fill-more P (c .loop-a .table) (c .loop-a .a) _ [] (omega arith) (c .loop-a .inv .1) (c .in-Continue-row .ensures tt)
+    λ a row. (b : ℕ) → b < c .args .labels → Least (matrix (c .args .labels) (c .args .rows .now)) a b (getD row b 0) in (
+      length-set (c .loop-a .table) (c .loop-a .a) _ ∙ c .loop-a .inv .0,
+      fill-more P (c .loop-a .table) (c .loop-a .a) _ [] (omega arith) (c .loop-a .inv .1) (c .in-Continue-row .ensures tt),
     )

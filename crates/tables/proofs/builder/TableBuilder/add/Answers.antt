@@ -15,7 +15,7 @@ returns-then-closes-loop c =
     record {
       pairs = λ pairs keeps. (inr ((low, high), looped _ _ [] pairs _ _ low high keeps (back .0) (back .1), refl), keeps);
       labels = refl;
-      refused = λ _. refl
+      refused = λ _. refl;
     }
 
 pub ghost-self : need.ghost-self
@@ -23,10 +23,13 @@ ghost-self c =
     let self = c .args .self .now in
     let before = ordered _ _ (self .ordered) in
     let link = c .linked-rows .ensures in
-    let open-ended = c .if-closes-loop .ensures tt .1 in
-    ( self .sized
-    , ( linked-inside _ _ _ _ _ (self .inside) before link
-    , (∣ linked-ordered _ _ _ _ _ (self .inside) before link open-ended ∣₁, tt)))
+    let open-ended = c .if-closes-loop .ensures tt .1 in (
+      self .sized,
+      (
+        linked-inside _ _ _ _ _ (self .inside) before link,
+        (∣ linked-ordered _ _ _ _ _ (self .inside) before link open-ended ∣₁, tt),
+      ),
+    )
 
 pub returns : need.returns
 returns c =
@@ -38,10 +41,10 @@ returns c =
     let open-ended = c .if-closes-loop .ensures tt .1 in
     record {
       pairs = λ pairs keeps.
-        let after = linked-keeps _ _ _ pairs _ _ low high keeps link in
-        ( ((low, high), not-looped _ _ _ (linked-inside _ _ _ _ _ (self .inside) before link) (linked-ordered _ _ _ _ _ (self .inside) before link open-ended) after)
-        , after
-        );
+          let after = linked-keeps _ _ _ pairs _ _ low high keeps link in (
+            ((low, high), not-looped _ _ _ (linked-inside _ _ _ _ _ (self .inside) before link) (linked-ordered _ _ _ _ _ (self .inside) before link open-ended) after),
+            after,
+          );
       labels = refl;
-      refused = λ e. absurd (clash (sym e))
+      refused = λ e. absurd (clash (sym e));
     }
