@@ -1,3 +1,4 @@
 pub mod Chains
 pub mod Inclusion
 pub mod Houses
+pub mod Orders

@@ -4,3 +4,5 @@ pub mod Chains
 pub mod Links
 pub mod Joins
 pub mod Primes
+pub mod Flips
+pub mod Finishing

@@ -14,9 +14,9 @@ use labels::fault::KindFault;
 // A table in the making: the order of the pairs that were added so far.
 #[derive(Drop)]
 pub struct TableBuilder {
-    labels: u32,
+    pub(crate) labels: u32,
     // bit b of row a says that a is at or below b
-    rows: [u32; 32],
+    pub(crate) rows: [u32; 32],
     ghost sized: { TableSize labels },
     ghost inside: { Inside labels rows },
     ghost ordered: { ∥ PartialOrder (matrix labels rows) ∥₁ },
