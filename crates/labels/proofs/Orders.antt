@@ -11,12 +11,12 @@ module _ (k l : LabelOrder) (same : Same k l) where
   same-least a b j x = record {
     left = same .orders a j .0 (x .left);
     right = same .orders b j .0 (x .right);
-    least = λ c p q. same .orders j c .0 (x .least c (same .orders a c .1 p) (same .orders b c .1 q))
+    least = λ c p q. same .orders j c .0 (x .least c (same .orders a c .1 p) (same .orders b c .1 q));
   }
 
   pub same-greatest : (a b m : ℕ) → Greatest k a b m → Greatest l a b m
   same-greatest a b m x = record {
     left = same .orders m a .0 (x .left);
     right = same .orders m b .0 (x .right);
-    greatest = λ c p q. same .orders c m .0 (x .greatest c (same .orders c a .1 p) (same .orders c b .1 q))
+    greatest = λ c p q. same .orders c m .0 (x .greatest c (same .orders c a .1 p) (same .orders c b .1 q));
   }

@@ -19,7 +19,7 @@ use Rattle.tables.proofs.Flips.{down-inside, down-ordered, least-greatest, gre
 pub keeps-same : (n : ℕ) (rows : List ℕ) (pairs : List (ℕ × ℕ)) → Inside n rows → Keeps n rows pairs → Same (matrix n rows) (table n pairs)
 keeps-same n rows pairs inside keeps = record {
   sizes = refl;
-  orders = λ a b. (λ u. keeps a b .0 (u .order), λ u. under n rows inside a b (keeps a b .1 u))
+  orders = λ a b. (λ u. keeps a b .0 (u .order), λ u. under n rows inside a b (keeps a b .1 u));
 }
 
 -- labels that have joins have a label above any number of them
@@ -28,10 +28,13 @@ above-all : (k : LabelOrder) (joins : List (List ℕ)) → PartialOrder k → Jo
 above-all k joins ordered join some zero l = (0, some, λ a h. absurd (omega arith))
 above-all k joins ordered join some (suc i) l =
     let (t, in-t, above) = above-all k joins ordered join some i (omega arith) in
-    let x = join t i in-t (omega arith) in
-    (entry joins t i, x .left .high, λ a h.
-      elim (ℕ-discrete a i)
-        [ yes e ↦ rw e (x .right) | no ne ↦ ordered .transitive a t (entry joins t i) (above a (omega arith)) (x .left) ])
+    let x = join t i in-t (omega arith) in (
+      entry joins t i,
+      x .left .high,
+      λ a h.
+          elim (ℕ-discrete a i)
+          [ yes e ↦ rw e (x .right) | no ne ↦ ordered .transitive a t (entry joins t i) (above a (omega arith)) (x .left) ],
+    )
 
 pub joins-within : (k : LabelOrder) (joins : List (List ℕ)) → JoinTable k joins → Within (k .size) joins
 joins-within k joins join a b la lb = join a b la lb .left .high
@@ -58,13 +61,18 @@ module _ (n : ℕ) (rows down : List ℕ) (inside : Inside n rows) (ordered : Pa
   pub split-primes : (primes : ℕ)
       → ((u : ℕ) → Iff (Has primes u) ((u < n) × ((a b : ℕ) → a < n → b < n → SplitBits down u a b (entry joins a b))))
       → PrimeSet (matrix n rows) joins primes
-  split-primes primes bits u =
-      ( λ h. let (l, split) = bits u .0 h in
-        (l, λ a b la lb below apart.
-          under n rows inside u b (flip u b .0 (split a b la lb (flip u (entry joins a b) .1 (below .order)) (λ g. apart (under n rows inside u a (flip u a .0 g))))))
-      , λ p. bits u .1 (p .0, λ a b la lb h apart.
-          flip u b .1 (p .1 a b la lb (under n rows inside u (entry joins a b) (flip u (entry joins a b) .0 h)) (λ x. apart (flip u a .1 (x .order))) .order))
-      )
+  split-primes primes bits u = (
+    λ h. let (l, split) = bits u .0 h in (
+      l,
+      λ a b la lb below apart.
+          under n rows inside u b (flip u b .0 (split a b la lb (flip u (entry joins a b) .1 (below .order)) (λ g. apart (under n rows inside u a (flip u a .0 g))))),
+    ),
+    λ p. bits u .1 (
+      p .0,
+      λ a b la lb h apart.
+          flip u b .1 (p .1 a b la lb (under n rows inside u (entry joins a b) (flip u (entry joins a b) .0 h)) (λ x. apart (flip u a .1 (x .order))) .order),
+    ),
+  )
 
   pub finished : (top primes : ℕ) → 0 < n
       → ((t : ℕ) → t < n → getD down t 0 ≡ 2 ^ n - 1 → (top < n) × (getD down top 0 ≡ 2 ^ n - 1))
@@ -78,5 +86,5 @@ module _ (n : ℕ) (rows down : List ℕ) (inside : Inside n rows) (ordered : Pa
         meet = flipped-meets;
         join = join;
         highest = (in-top, row-top n rows down inside ordered flip top row);
-        prime = split-primes primes bits
+        prime = split-primes primes bits;
       }

@@ -23,21 +23,21 @@ module _ (n : ℕ) (rows down : List ℕ) (inside : Inside n rows) (ordered : Pa
   down-ordered = record {
     reflexive = λ a l. back a a (ordered .reflexive a l);
     antisymmetric = λ a b p q. ordered .antisymmetric a b (up a b q) (up b a p);
-    transitive = λ a b c p q. back c a (ordered .transitive c b a (up c b q) (up b a p))
+    transitive = λ a b c p q. back c a (ordered .transitive c b a (up c b q) (up b a p));
   }
 
   pub least-greatest : (a b m : ℕ) → Least (matrix n down) a b m → Greatest (matrix n rows) a b m
   least-greatest a b m x = record {
     left = up m a (x .left);
     right = up m b (x .right);
-    greatest = λ c p q. up c m (x .least c (back c a p) (back c b q))
+    greatest = λ c p q. up c m (x .least c (back c a p) (back c b q));
   }
 
   pub greatest-least : (a b m : ℕ) → Greatest (matrix n rows) a b m → Least (matrix n down) a b m
   greatest-least a b m x = record {
     left = back m a (x .left);
     right = back m b (x .right);
-    least = λ c p q. back c m (x .greatest c (up c a p) (up c b q))
+    least = λ c p q. back c m (x .greatest c (up c a p) (up c b q));
   }
 
   -- the row of the top holds every label
@@ -47,4 +47,4 @@ module _ (n : ℕ) (rows down : List ℕ) (inside : Inside n rows) (ordered : Pa
   pub top-row : (t : ℕ) → Top (matrix n rows) t → getD down t 0 ≡ 2 ^ n - 1
   top-row t top =
       same-set (getD down t 0) (2 ^ n - 1)
-        (λ a. (λ h. has-ones n a .1 (down-inside t a h .1), λ h. flip a t .1 (top a (has-ones n a .0 h) .order)))
+      (λ a. (λ h. has-ones n a .1 (down-inside t a h .1), λ h. flip a t .1 (top a (has-ones n a .0 h) .order)))

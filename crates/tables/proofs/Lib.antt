@@ -6,3 +6,4 @@ pub mod Joins
 pub mod Primes
 pub mod Flips
 pub mod Finishing
+pub mod Laws

@@ -6,14 +6,14 @@ ghost use Rattle.labels.specs.Order.{Same};
 ghost use Rattle.labels.specs.declared.fault.KindFault.the-variants.{NoMeetOrJoin};
 ghost use Rattle.tables.specs.Table.{table, Lacking, TableSize, TableTaken, TableRefused};
 ghost use Rattle.tables.specs.Rows.{matrix, Inside, Finished, Keeps};
-use base::contains;
-use labels::fault::KindFault;
-use labels::kind::LabelKind;
 use crate::bounds::flipped;
 use crate::bounds::highest;
 use crate::bounds::join_table;
 use crate::bounds::prime_set;
 use crate::builder::TableBuilder;
+use base::contains;
+use labels::fault::KindFault;
+use labels::kind::LabelKind;
 
 // A label kind whose order is given by pairs. Every question is answered by look-up.
 #[derive(Drop)]

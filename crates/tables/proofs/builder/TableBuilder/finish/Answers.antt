@@ -21,10 +21,10 @@ pub returns-in-rest-join-table : need.returns-in-rest-join-table
 returns-in-rest-join-table c = λ pairs keeps.
     let self = c .args .self in
     let flip = c .flipped-down .ensures in
-    let (a, b, la, lb, none) = c .in-rest-join-table .ensures tt in
-    ( refl
-    , lacks-meet _ _ pairs (keeps-same _ _ pairs (self .inside) keeps)
-        (a, b, la, lb, λ m x. none m (greatest-least _ _ _ (self .inside) (ordered _ _ (self .ordered)) flip a b m x))
+    let (a, b, la, lb, none) = c .in-rest-join-table .ensures tt in (
+      refl,
+      lacks-meet _ _ pairs (keeps-same _ _ pairs (self .inside) keeps)
+          (a, b, la, lb, λ m x. none m (greatest-least _ _ _ (self .inside) (ordered _ _ (self .ordered)) flip a b m x)),
     )
 
 pub ghost-result : need.ghost-result
@@ -33,8 +33,8 @@ ghost-result c =
     let meet = c .in-Some-join-table .ensures tt in
     let join = c .in-Some .ensures tt in
     let done =
-      finished _ _ _ (self .inside) (ordered _ _ (self .ordered)) (c .flipped-down .ensures) _ _ meet join
-        _ _ (self .sized .0) (c .highest-top .ensures) (c .prime-set-primes .ensures) in
+    finished _ _ _ (self .inside) (ordered _ _ (self .ordered)) (c .flipped-down .ensures) _ _ meet join
+    _ _ (self .sized .0) (c .highest-top .ensures) (c .prime-set-primes .ensures) in
     (self .sized, (self .inside, (∣ done ∣₁, tt)))
 
 pub returns : need.returns
