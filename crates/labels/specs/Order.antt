@@ -62,3 +62,8 @@ module _ (k : LabelOrder) where
 pub record Same (k l : LabelOrder) : Type 0 where
   pub sizes : k .size ≡ l .size
   pub orders : (a b : ℕ) → Iff (Under k a b) (Under l a b)
+
+-- k is the named order, and that order keeps the laws
+pub record Means (k named : LabelOrder) : Type 0 where
+  pub same : Same k named
+  pub lawful : Lawful named

@@ -1,5 +1,5 @@
 ghost use mathlib.Core.Path.{_≡_};
-ghost use Rattle.labels.specs.Order.{Same};
+ghost use Rattle.labels.specs.Order.{Means};
 ghost use Rattle.labels.specs.Chain.{chain, ChainSize};
 ghost use Rattle.labels.specs.Fault.{Sized};
 use crate::fault::KindFault;
@@ -14,7 +14,7 @@ pub struct Chain {
 
 impl Chain {
     pub fn new(labels: u32) -> Result<Chain, KindFault>
-        ensures { λ r. ⌜ Sized (ChainSize labels) (λ k. Same (chain (k .labels)) (chain labels)) r ⌝ }
+        ensures { λ r. ⌜ Sized (ChainSize labels) (λ k. Means (chain (k .labels)) (chain labels)) r ⌝ }
     {
         if labels < 1 || labels > 65_536 {
             return Err(KindFault::SizeOutOfLimits);

@@ -1,7 +1,7 @@
 use crate::kind::LabelKind;
 ghost use Prim.Native.Nat.{_<_};
 ghost use Rattle.labels.specs.House.{house};
-ghost use Rattle.labels.specs.Order.{Greatest, Least};
+ghost use Rattle.labels.specs.Order.{Greatest, Least, Means};
 
 // The meet of a and b stands in row a, at place b.
 const MEETS: [[u8; 12]; 12] = [
@@ -52,6 +52,14 @@ fn join_of(a: usize, b: usize) -> u8
 // Labels of three parts, 4 × sales + 2 × service + export, ordered part by part.
 #[derive(Clone, Copy)]
 pub struct House;
+
+impl House {
+    pub fn new() -> House
+        ensures { λ _. ⌜ Means house house ⌝ }
+    {
+        House
+    }
+}
 
 pub impl LabelKind for House as HouseKind {
     ghost meaning = { λ _. house };

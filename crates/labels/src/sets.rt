@@ -2,7 +2,7 @@ ghost use mathlib.Core.Path.{_≡_};
 ghost use Prim.Native.Nat.{_^_};
 ghost use lib.Dec.{T};
 ghost use Rattle.base.specs.Words.{Iff};
-ghost use Rattle.labels.specs.Order.{Same, Label};
+ghost use Rattle.labels.specs.Order.{Means, Label};
 ghost use Rattle.labels.specs.Sets.{sets, SetsSize};
 ghost use Rattle.labels.specs.Fault.{Sized};
 use crate::fault::KindFault;
@@ -17,7 +17,7 @@ pub struct Sets {
 
 impl Sets {
     pub fn new(regions: u32) -> Result<Sets, KindFault>
-        ensures { λ r. ⌜ Sized (SetsSize regions) (λ k. Same (sets (k .regions)) (sets regions)) r ⌝ }
+        ensures { λ r. ⌜ Sized (SetsSize regions) (λ k. Means (sets (k .regions)) (sets regions)) r ⌝ }
     {
         if regions > 32 {
             return Err(KindFault::SizeOutOfLimits);

@@ -49,10 +49,6 @@ module _ (n : ℕ) (rows : List ℕ) (pairs : List (ℕ × ℕ)) (same : Same (m
   lacks-meet (a, b, la, lb, none) =
       (a, b, la, lb, inl (λ m x. none m (same-greatest (table n pairs) (matrix n rows) (same-sym (matrix n rows) (table n pairs) same) a b m x)))
 
-  pub lacks-none : (meets joins : List (List ℕ)) → MeetTable (matrix n rows) meets → JoinTable (matrix n rows) joins → Lacking (table n pairs) → ⊥
-  lacks-none meets joins meet join (a, b, la, lb, inl none) = none (entry meets a b) (same-greatest (matrix n rows) (table n pairs) same a b _ (meet a b la lb))
-  lacks-none meets joins meet join (a, b, la, lb, inr none) = none (entry joins a b) (same-least (matrix n rows) (table n pairs) same a b _ (join a b la lb))
-
 module _ (n : ℕ) (rows down : List ℕ) (inside : Inside n rows) (ordered : PartialOrder (matrix n rows)) (flip : Flipped rows down)
     (meets joins : List (List ℕ)) (meet : JoinTable (matrix n down) meets) (join : JoinTable (matrix n rows) joins) where
   pub flipped-meets : MeetTable (matrix n rows) meets

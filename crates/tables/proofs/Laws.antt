@@ -8,10 +8,12 @@ use Rattle.base.specs.Bits.{Has}
 use Rattle.base.specs.Words.{Iff}
 use Rattle.base.proofs.Sets.{has-or-not}
 use lib.ListN.{getD}
-use Rattle.labels.specs.Order.{Lawful, JoinPrime, Under, Least}
-use Rattle.tables.specs.Table.{TableSize}
-use Rattle.tables.specs.Rows.{matrix, Inside, Finished, entry}
+use Rattle.labels.specs.Order.{Lawful, JoinPrime, Under, Least, Same, Means}
+use Rattle.labels.proofs.Orders.{same-greatest, same-least, same-lawful}
+use Rattle.tables.specs.Table.{TableSize, table, Lacking}
+use Rattle.tables.specs.Rows.{matrix, Inside, Keeps, Finished, entry}
 use Rattle.tables.proofs.Matrix.{under}
+use Rattle.tables.proofs.Finishing.{keeps-same}
 
 module _ (n : ℕ) (rows : List ℕ) (meets joins : List (List ℕ)) (top primes : ℕ) (done : Finished (matrix n rows) meets joins top primes) where
   pub table-lawful : TableSize n → Lawful (matrix n rows)
@@ -47,3 +49,13 @@ module _ (n : ℕ) (rows : List ℕ) (meets joins : List (List ℕ)) (top primes
       from prime =
           done .prime u .1
           (prime .known, λ a b la lb below apart. ⊎-elim (λ x. absurd (apart x)) (λ x. x) (prime .splits a b (entry joins a b) (done .join a b la lb) below))
+
+  -- the table of the pairs that the rows keep lacks no meet and no join
+  lacks-none : (pairs : List (ℕ × ℕ)) → Same (matrix n rows) (table n pairs) → Lacking (table n pairs) → ⊥
+  lacks-none pairs same (a, b, la, lb, inl none) = none (entry meets a b) (same-greatest (matrix n rows) (table n pairs) same a b (entry meets a b) (done .meet a b la lb))
+  lacks-none pairs same (a, b, la, lb, inr none) = none (entry joins a b) (same-least (matrix n rows) (table n pairs) same a b (entry joins a b) (done .join a b la lb))
+
+  pub made : (pairs : List (ℕ × ℕ)) → TableSize n → Inside n rows → Keeps n rows pairs → (Lacking (table n pairs) → ⊥) × Means (matrix n rows) (table n pairs)
+  made pairs size inside keeps =
+      let same = keeps-same n rows pairs inside keeps in
+      (lacks-none pairs same, record { same = same; lawful = same-lawful (matrix n rows) (table n pairs) same (table-lawful size) })

@@ -2,7 +2,7 @@ ghost use mathlib.Core.List.{List};
 ghost use mathlib.Core.Path.{_≡_};
 ghost use Prim.Native.Nat.{ℕ};
 ghost use Rattle.std.specs.Results.{Cases};
-ghost use Rattle.labels.specs.Order.{Same};
+ghost use Rattle.labels.specs.Order.{Means};
 ghost use Rattle.labels.specs.declared.fault.KindFault.the-variants.{NoMeetOrJoin};
 ghost use Rattle.tables.specs.Table.{table, Lacking, TableSize, TableTaken, TableRefused};
 ghost use Rattle.tables.specs.Rows.{matrix, Inside, Finished, Keeps};
@@ -35,7 +35,7 @@ pub struct Table {
 impl TableBuilder {
     // The table of the pairs that were added.
     pub fn finish(self) -> Result<Table, KindFault>
-        ensures { λ r. ⌜ ((pairs : List (ℕ × ℕ)) → Keeps (self .labels) (self .rows) pairs → Cases r (λ t. (Lacking (table (self .labels) pairs) → ⊥) × Same (matrix (t .labels) (t .rows)) (table (self .labels) pairs)) (λ f. (f ≡ NoMeetOrJoin) × Lacking (table (self .labels) pairs))) ⌝ }
+        ensures { λ r. ⌜ ((pairs : List (ℕ × ℕ)) → Keeps (self .labels) (self .rows) pairs → Cases r (λ t. (Lacking (table (self .labels) pairs) → ⊥) × Means (matrix (t .labels) (t .rows)) (table (self .labels) pairs)) (λ f. (f ≡ NoMeetOrJoin) × Lacking (table (self .labels) pairs))) ⌝ }
     {
         let labels = self.labels;
         let rows = self.rows;
@@ -62,7 +62,7 @@ impl TableBuilder {
 impl Table {
     // The table of so many labels and these pairs, taken one after the other.
     pub fn new(labels: u32, pairs: &[(u32, u32)]) -> Result<Table, KindFault>
-        ensures { λ r. ⌜ Cases r (λ t. TableTaken labels (now (pairs .entry)) × Same (matrix (t .labels) (t .rows)) (table labels (now (pairs .entry)))) (TableRefused labels (now (pairs .entry))) ⌝ }
+        ensures { λ r. ⌜ Cases r (λ t. TableTaken labels (now (pairs .entry)) × Means (matrix (t .labels) (t .rows)) (table labels (now (pairs .entry)))) (TableRefused labels (now (pairs .entry))) ⌝ }
     {
         let mut builder = TableBuilder::new(labels)?;
         for pair in pairs {

@@ -1,7 +1,8 @@
 use mathlib.Core.Path.{refl}
 use Rattle.tables.proofs.OneProof.{ordered}
 use Rattle.tables.proofs.Flips.{down-inside, down-ordered, greatest-least}
-use Rattle.tables.proofs.Finishing.{keeps-same, lacks-join, lacks-meet, lacks-none, flipped-meets, finished}
+use Rattle.tables.proofs.Finishing.{keeps-same, lacks-join, lacks-meet, finished}
+use Rattle.tables.proofs.Laws.{made}
 use Rattle.tables.proofs.builder.TableBuilder.finish.Needs as need
 
 pub join-table-requires : need.join-table-requires
@@ -30,16 +31,15 @@ returns-in-rest-join-table c = λ pairs keeps.
 pub ghost-result : need.ghost-result
 ghost-result c =
     let self = c .args .self in
-    let meet = c .in-Some-join-table .ensures tt in
-    let join = c .in-Some .ensures tt in
     let done =
-    finished _ _ _ (self .inside) (ordered _ _ (self .ordered)) (c .flipped-down .ensures) _ _ meet join
-    _ _ (self .sized .0) (c .highest-top .ensures) (c .prime-set-primes .ensures) in
+      finished _ _ _ (self .inside) (ordered _ _ (self .ordered)) (c .flipped-down .ensures) _ _
+        (c .in-Some-join-table .ensures tt) (c .in-Some .ensures tt) _ _ (self .sized .0) (c .highest-top .ensures) (c .prime-set-primes .ensures) in
     (self .sized, (self .inside, (∣ done ∣₁, tt)))
 
 pub returns : need.returns
 returns c = λ pairs keeps.
     let self = c .args .self in
-    let same = keeps-same _ _ pairs (self .inside) keeps in
-    let meet = flipped-meets _ _ _ (self .inside) (ordered _ _ (self .ordered)) (c .flipped-down .ensures) _ _ (c .in-Some-join-table .ensures tt) (c .in-Some .ensures tt) in
-    (lacks-none _ _ pairs same _ _ meet (c .in-Some .ensures tt), same)
+    let done =
+      finished _ _ _ (self .inside) (ordered _ _ (self .ordered)) (c .flipped-down .ensures) _ _
+        (c .in-Some-join-table .ensures tt) (c .in-Some .ensures tt) _ _ (self .sized .0) (c .highest-top .ensures) (c .prime-set-primes .ensures) in
+    made _ _ _ _ _ _ done pairs (self .sized) (self .inside) keeps

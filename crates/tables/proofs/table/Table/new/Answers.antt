@@ -9,7 +9,7 @@ use borrow.Author.Count.{below-more}
 use Rattle.std.specs.Results.{Cases}
 use Rattle.std.proofs.shelf.Lists.{take-more}
 use Rattle.std.proofs.shelf.Results.{err-from-errBy, cases-weaker}
-use Rattle.labels.specs.Order.{Same}
+use Rattle.labels.specs.Order.{Means}
 use Rattle.labels.specs.declared.fault.KindFault.the-variants.{NoMeetOrJoin}
 use Rattle.tables.specs.Table.{table, more, PairTaken, PairRefused, TakenUpTo, Lacking}
 use Rattle.tables.specs.Rows.{Keeps, matrix}
@@ -50,7 +50,7 @@ returns c =
     let kept : Keeps (c .loop-pair .builder .labels) (c .loop-pair .builder .rows) pairs =
     rw same (subst (Keeps labels (c .loop-pair .builder .rows)) (take-all _ _ (c .loop-pair-test .left)) keeps) in
     let Given : ℕ → Type 0 = λ n.
-    Cases (c .finish .result) (λ t. (Lacking (table n pairs) → ⊥) × Same (matrix (t .labels) (t .rows)) (table n pairs))
+    Cases (c .finish .result) (λ t. (Lacking (table n pairs) → ⊥) × Means (matrix (t .labels) (t .rows)) (table n pairs))
     (λ f. (f ≡ NoMeetOrJoin) × Lacking (table n pairs)) in
     let given : Given labels = subst Given same (c .finish .ensures pairs kept) in
     cases-weaker (c .finish .result) given
