@@ -2,12 +2,13 @@
 use mathlib.Core.Path.{_≡_, refl}
 use mathlib.Core.Logic.{_⊎_, inl, inr}
 use mathlib.Core.Bool.{Bool}
-use mathlib.Core.List.{List, []}
+use mathlib.Core.List.{List, [], _∷_}
 use Prim.Native.Nat.{ℕ, _+_, _*_, _/_, _%_, _≤_, _<_, min, max}
 use native.Mathlib.Omega.{arith}
-use native.Mathlib.Decide.{decLe}
+use native.Mathlib.Decide.{decLe, ℕ-discrete}
 use lib.Dec.{T, eqb, eqb→eq}
 use lib.ListN.{getD}
+use Rattle.base.specs.Words.{In}
 use Rattle.base.proofs.Tables.{square, at-entry}
 use Rattle.labels.specs.Order.{Lawful, JoinPrime, Greatest, Least, Under}
 use Rattle.labels.specs.House.{house, sales, service, export, PartByPart}
@@ -109,3 +110,26 @@ prime-part u prime =
             | inr v ↦ inr (omega arith)
           ]
     ]
+
+-- the labels of one part, or none
+pub one-part : (u : ℕ) → (u < 12) × ((u % 4 ≡ 0) ⊎ (u ≤ 2)) → In u (0 ∷ 1 ∷ 2 ∷ 4 ∷ 8 ∷ [])
+one-part u (l, one) =
+    elim (ℕ-discrete u 0) [
+      | yes e ↦ inl e
+      | no n0 ↦ inr (elim (ℕ-discrete u 1) [
+        | yes e ↦ inl e
+        | no n1 ↦ inr (elim (ℕ-discrete u 2) [
+          | yes e ↦ inl e
+          | no n2 ↦ inr (elim (ℕ-discrete u 4)
+              [ yes e ↦ inl e | no n4 ↦ inr (inl (elim one [ inl four ↦ omega arith | inr few ↦ absurd (omega arith) ])) ])
+        ])
+      ])
+    ]
+
+pub part-one : (u : ℕ) → In u (0 ∷ 1 ∷ 2 ∷ 4 ∷ 8 ∷ []) → (u < 12) × ((u % 4 ≡ 0) ⊎ (u ≤ 2))
+part-one u (inl e) = (omega arith, inr (omega arith))
+part-one u (inr (inl e)) = (omega arith, inr (omega arith))
+part-one u (inr (inr (inl e))) = (omega arith, inr (omega arith))
+part-one u (inr (inr (inr (inl e)))) = (omega arith, inl (omega arith))
+part-one u (inr (inr (inr (inr (inl e))))) = (omega arith, inl (omega arith))
+part-one u (inr (inr (inr (inr (inr i))))) = absurd i

@@ -6,10 +6,9 @@ use native.Mathlib.Omega.{arith}
 use native.Mathlib.Decide.{ℕ-discrete}
 use lib.Pow.{pow-pos, pow-mono, pow-lt, ones-lt}
 use lib.Bits.{bitAnd, bitOr, and-lt, or-lt, and-le-r}
-use Rattle.base.specs.Bits.{Has, Subset}
+use Rattle.base.specs.Bits.{Has, Subset, AtMostOne}
 use Rattle.base.specs.Words.{Iff}
 use Rattle.base.proofs.Sets.{has-and, has-or, has-or-left, has-or-right, has-below, has-ones, has-single, has-without, same-set, some-place, has-zero}
-use Rattle.base.proofs.Ones.{Single}
 use Rattle.labels.specs.Order.{Lawful, JoinPrime, Greatest, Least, Under, Label, Top}
 use Rattle.labels.specs.Sets.{sets, SetsSize}
 
@@ -60,7 +59,7 @@ module _ (r : ℕ) where
   }
 
   -- a set of at most one region lies within one of two sets whenever it lies within their union
-  pub single-prime : (u : ℕ) → u < 2 ^ r → Single u → JoinPrime (sets r) u
+  pub single-prime : (u : ℕ) → u < 2 ^ r → AtMostOne u → JoinPrime (sets r) u
   single-prime u l one = record { known = l; splits = splits }
     where
       within : (a i : ℕ) → a < 2 ^ r → Has u i → Has a i → Under (sets r) u a
@@ -81,7 +80,7 @@ module _ (r : ℕ) where
           ]
 
   -- a join prime set has at most one region: it lies within the union of one of its regions and all the others
-  pub prime-single : (u : ℕ) → JoinPrime (sets r) u → Single u
+  pub prime-single : (u : ℕ) → JoinPrime (sets r) u → AtMostOne u
   prime-single u prime i k h g =
       let top = 2 ^ r - 1 in
       let i-in : i < r = has-below r u i (prime .known) h in

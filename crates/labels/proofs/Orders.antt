@@ -34,7 +34,7 @@ module _ (k l : LabelOrder) (same : Same k l) where
     transitive = λ a b c p q. same .orders a c .0 (laws .transitive a b c (same .orders a b .1 p) (same .orders b c .1 q));
     meets = λ a b p q. let (m, x) = laws .meets a b (label a p) (label b q) in (m, same-greatest a b m x);
     joins = λ a b p q. let (j, x) = laws .joins a b (label a p) (label b q) in (j, same-least a b j x);
-    top = let (t, x) = laws .top in (t, λ a h. same .orders a t .0 (x a (label a h)))
+    top = let (t, x) = laws .top in (t, λ a h. same .orders a t .0 (x a (label a h)));
   }
 
 pub same-refl : (k : LabelOrder) → Same k k

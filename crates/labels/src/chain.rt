@@ -1,5 +1,8 @@
 ghost use mathlib.Core.Path.{_≡_};
-ghost use Rattle.labels.specs.Order.{Means};
+ghost use Prim.Native.Nat.{_<_};
+ghost use lib.Dec.{T};
+ghost use Rattle.base.specs.Words.{Iff};
+ghost use Rattle.labels.specs.Order.{Means, JoinPrime};
 ghost use Rattle.labels.specs.Chain.{chain, ChainSize};
 ghost use Rattle.labels.specs.Fault.{Sized};
 use crate::fault::KindFault;
@@ -52,7 +55,11 @@ pub impl LabelKind for Chain as ChainKind {
         self.labels - 1
     }
 
-    fn admits(&self, user: u32) -> bool {
+    // Every label is admitted.
+    fn admits(&self, user: u32) -> bool
+        ensures prime { λ r. ⌜ Iff (T r) (JoinPrime (chain (now (self .entry) .labels)) user) ⌝ }
+        ensures which { λ r. ⌜ Iff (T r) (user < now (self .entry) .labels) ⌝ }
+    {
         user < self.labels
     }
 }

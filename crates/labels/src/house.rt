@@ -1,7 +1,10 @@
 use crate::kind::LabelKind;
+ghost use mathlib.Core.List.{[], _∷_};
 ghost use Prim.Native.Nat.{_<_};
+ghost use lib.Dec.{T};
+ghost use Rattle.base.specs.Words.{Iff, In};
 ghost use Rattle.labels.specs.House.{house};
-ghost use Rattle.labels.specs.Order.{Greatest, Least, Means};
+ghost use Rattle.labels.specs.Order.{Greatest, Least, Means, JoinPrime};
 
 // The meet of a and b stands in row a, at place b.
 const MEETS: [[u8; 12]; 12] = [
@@ -92,8 +95,11 @@ pub impl LabelKind for House as HouseKind {
         11
     }
 
-    // Only one of its parts is above 0.
-    fn admits(&self, user: u32) -> bool {
+    // The labels with one part above 0, or none, are admitted.
+    fn admits(&self, user: u32) -> bool
+        ensures prime { λ r. ⌜ Iff (T r) (JoinPrime house user) ⌝ }
+        ensures which { λ r. ⌜ Iff (T r) (In user (0 ∷ 1 ∷ 2 ∷ 4 ∷ 8 ∷ [])) ⌝ }
+    {
         user < 12 && (user % 4 == 0 || user <= 2)
     }
 }

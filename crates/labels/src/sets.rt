@@ -1,8 +1,9 @@
 ghost use mathlib.Core.Path.{_≡_};
 ghost use Prim.Native.Nat.{_^_};
 ghost use lib.Dec.{T};
+ghost use Rattle.base.specs.Bits.{AtMostOne};
 ghost use Rattle.base.specs.Words.{Iff};
-ghost use Rattle.labels.specs.Order.{Means, Label};
+ghost use Rattle.labels.specs.Order.{Means, Label, JoinPrime};
 ghost use Rattle.labels.specs.Sets.{sets, SetsSize};
 ghost use Rattle.labels.specs.Fault.{Sized};
 use crate::fault::KindFault;
@@ -69,7 +70,11 @@ pub impl LabelKind for Sets as SetsKind {
         (self.count() - 1) as u32
     }
 
-    fn admits(&self, user: u32) -> bool {
+    // The empty set and the single regions are admitted.
+    fn admits(&self, user: u32) -> bool
+        ensures prime { λ r. ⌜ Iff (T r) (JoinPrime (sets (now (self .entry) .regions)) user) ⌝ }
+        ensures which { λ r. ⌜ Iff (T r) (Label (sets (now (self .entry) .regions)) user × AtMostOne user) ⌝ }
+    {
         self.is_label(user) && user.count_ones() <= 1
     }
 }

@@ -5,4 +5,4 @@ use Rattle.labels.proofs.chain.ChainKind.admits.Needs as need
 pub returns : need.returns
 returns c =
     let test = ltb-iff (c .args .user) (c .args .self .now .labels) in
-    (λ t. chain-prime _ _ (test .0 t), λ prime. test .1 (prime .known))
+    record { prime = (λ t. chain-prime _ _ (test .0 t), λ prime. test .1 (prime .known)); which = test }

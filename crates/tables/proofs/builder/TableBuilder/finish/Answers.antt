@@ -32,14 +32,14 @@ pub ghost-result : need.ghost-result
 ghost-result c =
     let self = c .args .self in
     let done =
-      finished _ _ _ (self .inside) (ordered _ _ (self .ordered)) (c .flipped-down .ensures) _ _
-        (c .in-Some-join-table .ensures tt) (c .in-Some .ensures tt) _ _ (self .sized .0) (c .highest-top .ensures) (c .prime-set-primes .ensures) in
+    finished _ _ _ (self .inside) (ordered _ _ (self .ordered)) (c .flipped-down .ensures) _ _
+    (c .in-Some-join-table .ensures tt) (c .in-Some .ensures tt) _ _ (self .sized .0) (c .highest-top .ensures) (c .prime-set-primes .ensures) in
     (self .sized, (self .inside, (∣ done ∣₁, tt)))
 
 pub returns : need.returns
 returns c = λ pairs keeps.
     let self = c .args .self in
     let done =
-      finished _ _ _ (self .inside) (ordered _ _ (self .ordered)) (c .flipped-down .ensures) _ _
-        (c .in-Some-join-table .ensures tt) (c .in-Some .ensures tt) _ _ (self .sized .0) (c .highest-top .ensures) (c .prime-set-primes .ensures) in
+    finished _ _ _ (self .inside) (ordered _ _ (self .ordered)) (c .flipped-down .ensures) _ _
+    (c .in-Some-join-table .ensures tt) (c .in-Some .ensures tt) _ _ (self .sized .0) (c .highest-top .ensures) (c .prime-set-primes .ensures) in
     made _ _ _ _ _ _ done pairs (self .sized) (self .inside) keeps
