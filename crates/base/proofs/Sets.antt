@@ -7,7 +7,7 @@ use native.Mathlib.Omega.{arith}
 use native.Mathlib.Decide.{decLt, ℕ-discrete}
 use lib.Arith.{bin-ind}
 use lib.Pow.{pow-pos, pow-add, pow-mono, ones-split, ones-lt, high}
-use lib.Bits.{bitAnd, bitOr, and-shr, or-shr, and-step, or-step}
+use lib.Bits.{bitAnd, bitOr, and-shr, or-shr, and-step, or-step, and-le-r}
 use Rattle.base.specs.Bits.{Has, Subset}
 use Rattle.base.specs.Words.{Iff}
 
@@ -179,3 +179,30 @@ has-not (suc n) s (suc i) small within =
     let twice : 2 ^ suc n ≡ 2 * 2 ^ n = pow-suc 2 n ∙ mul-comm (2 ^ n) 2 in
     let half : (2 ^ suc n - 1 - s) / 2 ≡ 2 ^ n - 1 - s / 2 = omega (arith, twice) in
     simp (has-next, half) (has-not n (s / 2) i (omega (arith, twice)) (omega arith))
+
+-- what is in a set and not in another
+pub has-minus : (n s t i : ℕ) → s < 2 ^ n → t < 2 ^ n → Iff (Has (bitAnd s (2 ^ n - 1 - t)) i) (Has s i × (Has t i → ⊥))
+has-minus n s t i small-s small-t =
+    ( λ h. let (in-s, in-rest) = has-and s (2 ^ n - 1 - t) i .0 h in (in-s, has-not n t i small-t (has-below n s i small-s in-s) .0 in-rest)
+    , λ p. has-and s (2 ^ n - 1 - t) i .1 (p .0, has-not n t i small-t (has-below n s i small-s (p .0)) .1 (p .1))
+    )
+
+-- inclusion, as the code tests it
+pub and-subset : (a b : ℕ) → Iff (bitAnd a b ≡ a) (Subset a b)
+and-subset a b =
+    ( λ e i h. has-and a b i .0 (rw e h) .1
+    , λ sub. same-set (bitAnd a b) a (λ i. (λ h. has-and a b i .0 h .0, λ h. has-and a b i .1 (h, sub i h)))
+    )
+
+-- a part of a set is no larger as a number, and smaller where it lacks a place
+pub subset-le : (a b : ℕ) → Subset a b → a ≤ b
+subset-le a b sub = omega (arith, and-le-r a b, and-subset a b .1 sub)
+
+pub subset-lt : (a b i : ℕ) → Subset a b → Has b i → (Has a i → ⊥) → a < b
+subset-lt a b i sub in-b not-a =
+    let ne : a ≡ b → ⊥ = λ e. not-a (subst (λ (x : ℕ). Has x i) (sym e) in-b) in
+    omega (arith, subset-le a b sub)
+
+-- a place of a set, as a part of its number
+pub has-le : (s i : ℕ) → Has s i → 2 ^ i ≤ s
+has-le s i h = subset-le (2 ^ i) s (λ k p. subst (λ (x : ℕ). Has s x) (sym (has-single i k .0 p)) h)

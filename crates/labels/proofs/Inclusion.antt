@@ -12,13 +12,6 @@ use Rattle.base.proofs.Sets.{has-and, has-or, has-or-left, has-or-right, has-be
 use Rattle.labels.specs.Order.{Lawful, JoinPrime, Greatest, Least, Under, Label, Top}
 use Rattle.labels.specs.Sets.{sets, SetsSize}
 
--- inclusion, as the code tests it
-pub and-subset : (a b : ℕ) → Iff (bitAnd a b ≡ a) (Subset a b)
-and-subset a b = (
-  λ e i h. has-and a b i .0 (rw e h) .1,
-  λ sub. same-set (bitAnd a b) a (λ i. (λ h. has-and a b i .0 h .0, λ h. has-and a b i .1 (h, sub i h))),
-)
-
 module _ (r : ℕ) where
   under : (a b : ℕ) → a < 2 ^ r → b < 2 ^ r → Subset a b → Under (sets r) a b
   under a b la lb sub = record { low = la; high = lb; order = sub }

@@ -1,8 +1,8 @@
 use native.Mathlib.Omega.{arith}
 use lib.Bits.{bitAnd, and-le-r}
 use lib.Dec.{eqb→eq}
+use Rattle.base.proofs.Sets.{and-subset}
 use Rattle.base.proofs.Tests.{eqb-iff, iff-trans}
-use Rattle.labels.proofs.Inclusion.{and-subset}
 use Rattle.labels.proofs.sets.SetsKind.at_or_below.Needs as need
 
 pub returns-then-is-label : need.returns-then-is-label
