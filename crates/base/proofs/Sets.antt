@@ -182,17 +182,17 @@ has-not (suc n) s (suc i) small within =
 
 -- what is in a set and not in another
 pub has-minus : (n s t i : ℕ) → s < 2 ^ n → t < 2 ^ n → Iff (Has (bitAnd s (2 ^ n - 1 - t)) i) (Has s i × (Has t i → ⊥))
-has-minus n s t i small-s small-t =
-    ( λ h. let (in-s, in-rest) = has-and s (2 ^ n - 1 - t) i .0 h in (in-s, has-not n t i small-t (has-below n s i small-s in-s) .0 in-rest)
-    , λ p. has-and s (2 ^ n - 1 - t) i .1 (p .0, has-not n t i small-t (has-below n s i small-s (p .0)) .1 (p .1))
-    )
+has-minus n s t i small-s small-t = (
+  λ h. let (in-s, in-rest) = has-and s (2 ^ n - 1 - t) i .0 h in (in-s, has-not n t i small-t (has-below n s i small-s in-s) .0 in-rest),
+  λ p. has-and s (2 ^ n - 1 - t) i .1 (p .0, has-not n t i small-t (has-below n s i small-s (p .0)) .1 (p .1)),
+)
 
 -- inclusion, as the code tests it
 pub and-subset : (a b : ℕ) → Iff (bitAnd a b ≡ a) (Subset a b)
-and-subset a b =
-    ( λ e i h. has-and a b i .0 (rw e h) .1
-    , λ sub. same-set (bitAnd a b) a (λ i. (λ h. has-and a b i .0 h .0, λ h. has-and a b i .1 (h, sub i h)))
-    )
+and-subset a b = (
+  λ e i h. has-and a b i .0 (rw e h) .1,
+  λ sub. same-set (bitAnd a b) a (λ i. (λ h. has-and a b i .0 h .0, λ h. has-and a b i .1 (h, sub i h))),
+)
 
 -- a part of a set is no larger as a number, and smaller where it lacks a place
 pub subset-le : (a b : ℕ) → Subset a b → a ≤ b

@@ -3,6 +3,9 @@ use mathlib.Core.Path.{_≡_, refl}
 use mathlib.Core.Bool.{Bool, true, false}
 use Prim.Native.Nat.{ℕ, _≤_, _<_}
 use lib.Dec.{T, eqb, ltb, leb, eqb→eq, ltb→lt, lt→ltb, leb→le, le→leb, eqb-refl}
+use Rattle.std.specs.declared.option.Option.{Option}
+use Rattle.std.specs.declared.option.Option.the-variants.{Some, None}
+use Rattle.std.specs.Options.{Cases}
 use Rattle.base.specs.Words.{Iff}
 
 pub eqb-iff : (m n : ℕ) → Iff (T (eqb m n)) (m ≡ n)
@@ -34,3 +37,8 @@ both-hold p q = (λ _. q, λ _. p)
 
 pub iff-trans : {P Q R : Type 0} → Iff P Q → Iff Q R → Iff P R
 iff-trans f g = (λ p. g .0 (f .0 p), λ r. f .1 (g .1 r))
+
+-- what is said of an optional value, said weaker
+pub option-weaker : {A : Type 0} (o : Option A) {P P′ : Type 0} {Q Q′ : A → Type 0} → Cases o P Q → (P → P′) → ((x : A) → Q x → Q′ x) → Cases o P′ Q′
+option-weaker None c p q = p c
+option-weaker (Some x) c p q = q x c

@@ -26,5 +26,9 @@ pub fn without_place(set: u64, place: u32) -> u64
     ensures there { λ r. ⌜ (Has set place → r ≡ set - 2 ^ place) ⌝ }
     ensures absent { λ r. ⌜ ((Has set place → ⊥) → r ≡ set) ⌝ }
 {
-    if contains(set, place) { set - (1 << place) } else { set }
+    if contains(set, place) {
+        set - (1 << place)
+    } else {
+        set
+    }
 }

@@ -8,5 +8,5 @@ use Rattle.base.proofs.with_place.Needs as need
 pub returns-then-place-lt64 : need.returns-then-place-lt64
 returns-then-place-lt64 c = record {
   within = λ l. ap (bitOr (c .args .set)) (one-shl (c .args .place) 64 l);
-  beyond = λ l. absurd (omega arith)
+  beyond = λ l. absurd (omega arith);
 }

@@ -24,5 +24,5 @@ returns-then-contains c =
     let here = c .if-contains .ensures tt .0 tt in
     record {
       there = λ h. ap (λ (x : ℕ). c .args .set - x) (bit (c .args .set) (c .args .place) (search needs) here);
-      absent = λ none. absurd (none here)
+      absent = λ none. absurd (none here);
     }

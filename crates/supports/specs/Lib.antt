@@ -1,0 +1,4 @@
+pub mod Supports
+pub mod Search
+pub mod Walk
+pub mod Found
