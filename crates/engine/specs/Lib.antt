@@ -1,0 +1,6 @@
+pub mod Pages
+pub mod Book
+pub mod Sight
+pub mod Law
+pub mod Keeps
+pub mod Obeys
