@@ -5,3 +5,5 @@ pub mod Changing
 pub mod Boundaries
 pub mod Sight
 pub mod Force
+pub mod Searching
+pub mod Supporting

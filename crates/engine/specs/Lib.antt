@@ -4,3 +4,4 @@ pub mod Sight
 pub mod Law
 pub mod Keeps
 pub mod Obeys
+pub mod Searched

@@ -1,9 +1,13 @@
 ghost use mathlib.Core.Path.{_≡_};
-ghost use Rattle.engine.specs.Book.{blank};
+ghost use Prim.Native.Nat.{_≤_};
+ghost use lib.ListN.{length};
+ghost use Rattle.engine.specs.Book.{Book, blank};
+ghost use Rattle.engine.specs.Law.{SearchLeaves};
+ghost use Rattle.engine.specs.Searched.{Searched};
 ghost use Rattle.engine.specs.Keeps.{Keeps, answer};
 ghost use Rattle.engine.specs.Obeys.{held, shown, Obeys};
-ghost use Rattle.engine.specs.declared.call.Answer.the-variants.{Entered, Done};
-ghost use Rattle.engine.specs.declared.call.Call.the-variants.{Enter, Withdraw, Relabel};
+ghost use Rattle.engine.specs.declared.call.Answer.the-variants.{Entered, Done, Count};
+ghost use Rattle.engine.specs.declared.call.Call.the-variants.{Enter, Withdraw, Relabel, Supports};
 use crate::call::SheetFault;
 use crate::page::Page;
 use crate::rows::RowTable;
@@ -13,6 +17,7 @@ use labels::kind::LabelKind;
 use logics::Logic;
 use logics::LogicFault;
 use logics::Record;
+use supports::find_supports;
 
 // A sheet: axioms with labels, of one label kind and one logic, and the rows of the published goals.
 #[derive(Drop)]
@@ -99,5 +104,44 @@ impl<K: LabelKind, L: Logic> Sheet<K, L> {
         self.axioms.relabel(n, label);
         self.rows.clear();
         Ok(())
+    }
+
+    // Fills the places with all supports of the goal, and answers how many there are.
+    pub fn supports(
+        &self,
+        goal: (u32, u32),
+        places: &mut [u64],
+        area: &mut [u8],
+    ) -> Result<usize, SheetFault>
+        ensures law { λ r. ⌜ Obeys (K·LabelKind .meaning (now (self .entry) .kind)) (L·Logic .meaning (now (self .entry) .logic)) (Supports goal (length (now (places .entry))) (length (now (area .entry)))) (answer Count r) (now (self .entry) .axioms) (now (self .entry) .rows) (now (self .entry) .axioms) (now (self .entry) .rows) ⌝ }
+        ensures leaves { λ r. ⌜ ((b : Book) → Keeps (K·LabelKind .meaning (now (self .entry) .kind)) (L·Logic .meaning (now (self .entry) .logic)) b (held (now (self .entry) .axioms)) (shown (now (self .entry) .rows)) → SearchLeaves (K·LabelKind .meaning (now (self .entry) .kind)) (L·Logic .meaning (now (self .entry) .logic)) b goal (answer Count r) (record { places = now (places .entry); area = now (area .entry) }) (record { places = now (places .exit); area = now (area .exit) })) ⌝ }
+    {
+        if !self.logic.takes_goal(goal) {
+            return Err(SheetFault::Logic(LogicFault::GoalNotTaken));
+        }
+        if area.len() < self.logic.work_bytes() {
+            return Err(SheetFault::ShortArea);
+        }
+        self.search(goal, places, area)
+    }
+
+    // The search, for a goal that is taken and an area that is wide enough.
+    fn search(
+        &self,
+        goal: (u32, u32),
+        places: &mut [u64],
+        area: &mut [u8],
+    ) -> Result<usize, SheetFault>
+        requires taken { ⌜ L·Logic .meaning (now self .logic) .TakesGoal goal ⌝ }
+        requires wide { ⌜ L·Logic .meaning (now self .logic) .bytes ≤ length (now area) ⌝ }
+        ensures found { λ r. ⌜ ((b : Book) → Keeps (K·LabelKind .meaning (now (self .entry) .kind)) (L·Logic .meaning (now (self .entry) .logic)) b (held (now (self .entry) .axioms)) (shown (now (self .entry) .rows)) → Searched (L·Logic .meaning (now (self .entry) .logic)) b goal (now (places .entry)) (now (area .entry)) r (now (places .exit)) (now (area .exit))) ⌝ }
+    {
+        let count = self.axioms.count;
+        let all = self.axioms.in_force();
+        let records = self.axioms.records();
+        match find_supports(&self.logic, &records[0..count], all, goal, places, area) {
+            Some(n) => Ok(n),
+            None => Err(SheetFault::MoreSupports),
+        }
     }
 }

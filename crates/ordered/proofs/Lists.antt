@@ -2,7 +2,7 @@
 use mathlib.Core.Path.{_≡_, refl, sym, ap₂, subst}
 use mathlib.Core.Logic.{_⊎_, inl, inr, ⊎-elim}
 use mathlib.Core.List.{List, [], _∷_, _++_}
-use Prim.Native.Nat.{ℕ, zero, suc, _<_}
+use Prim.Native.Nat.{ℕ, zero, suc, _≤_, _<_}
 use native.Mathlib.Omega.{arith}
 use native.Mathlib.Decide.{decLt}
 use lib.ListN.{length, getD, take, drop, take-append-drop}
@@ -112,6 +112,27 @@ module _ {A : Type 0} {R : A → A → Type 0} (order : Ranking R) where
       let into = same-tail x xs ys up (subst P (sym first) (λ z. same z .0)) in
       let back = same-tail y ys xs up′ (subst Q first (λ z. same z .1)) in
       ap₂ _∷_ first (ascending-unique xs ys (ascending-tail R x xs up) (ascending-tail R y ys up′) (λ z. (into z, back z)))
+
+  -- an ascending list of members of another is no longer than that
+  pub ascending-fewer : (xs ys : List A) → Ascending R xs → Ascending R ys → ((z : A) → In z xs → In z ys) → length xs ≤ length ys
+  ascending-fewer [] ys up up′ within = omega arith
+  ascending-fewer (x ∷ xs) [] up up′ within = absurd (within x (inl refl))
+  ascending-fewer (x ∷ xs) (y ∷ ys) up up′ within =
+      let rest = ascending-fewer xs ys (ascending-tail R x xs up) (ascending-tail R y ys up′) in
+      let whole = ascending-fewer (x ∷ xs) ys up (ascending-tail R y ys up′) in
+      ⊎-elim
+      (λ same. omega (arith, rest (λ z h. ⊎-elim (λ e. absurd (order .irreflexive y (subst (λ a. R a y) same (subst (R x) e (ascending-all x xs up z h))))) (λ j. j) (within z (inr h)))))
+      (λ later.
+      let first : R y x = ascending-all y ys up′ x later in
+      omega (
+        arith,
+        whole
+            (λ z h.
+            ⊎-elim (λ e. subst (λ a. In a ys) (sym e) later)
+            (λ j. ⊎-elim (λ e. absurd (order .irreflexive y (order .transitive y x y first (subst (R x) e (ascending-all x xs up z j))))) (λ q. q) (within z (inr j)))
+            h),
+      ))
+      (within x (inl refl))
 
 -- things are ranked by a key of theirs
 pub ranking-by : {A B : Type 0} {R : A → A → Type 0} (key : B → A) → Ranking R → Ranking (λ (a b : B). R (key a) (key b))
