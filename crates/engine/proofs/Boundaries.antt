@@ -18,6 +18,7 @@ use Rattle.labels.specs.Order.{LabelOrder, Label, Under, Greatest, Least, Top, 
 use Rattle.logics.specs.Entailment.{Entailment, Goal}
 use Rattle.engine.specs.declared.page.Page.{Page}
 use Rattle.engine.specs.Book.{Book}
+use Rattle.engine.specs.Widened.{Widened}
 use Rattle.engine.specs.Sight.{PageAt, AllSupports, MeetOf, IsBoundary}
 
 -- each axiom entered has a page
@@ -197,3 +198,9 @@ module _ (k : LabelOrder) (l : Entailment) (b : Book) (g : Goal) where
   boundary-unique laws (Some v) None is none = let (s, h) = is .supported in absurd (none s h)
   boundary-unique laws (Some v) (Some w) is is′ =
       ap {B = Option ℕ} Some (laws .antisymmetric v w (is .least w (is′ .label) (is′ .above)) (is′ .least v (is .label) (is .above)))
+
+-- one support more, as the code widens its bound
+pub join-widened : (k : LabelOrder) → Lawful k → (b : Book) (ss : List ℕ) (i m : ℕ) → i < length ss → MeetOf k b (getD ss i 0) m → (v r : Option ℕ)
+    → JoinUpTo k b (take i ss) v → Widened k v m r → JoinUpTo k b (take (i + 1) ss) r
+join-widened k laws b ss i m within is None r done e = rw e (join-take-first k laws b ss i m within is done)
+join-widened k laws b ss i m within is (Some v) r done (w, joins, e) = rw e (join-asked k laws b ss i m within is v w done joins)

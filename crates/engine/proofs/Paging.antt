@@ -14,7 +14,7 @@ use Rattle.base.specs.Bits.{Has}
 use Rattle.base.specs.Words.{Iff}
 use Rattle.base.proofs.Sets.{Gathered}
 use Rattle.logics.specs.declared.Record.{Record}
-use Rattle.engine.specs.Pages.{change, Standing, records-of}
+use Rattle.engine.specs.Pages.{change, At, Standing, records-of}
 
 -- past the first page
 change-later : (f : Page → Page) (m : ℕ) (p : Page) (ps : List Page) → change (suc (suc m)) f (p ∷ ps) ≡ p ∷ change (suc m) f ps
@@ -66,6 +66,12 @@ pub records-more : (pages : List Page) (records : List Record) (i : ℕ) → i <
 records-more pages records i within within′ done =
     let r = getD pages i no-page .entry in
     take-more-set records i r within′ ∙ ap (λ xs. xs ++ (r ∷ [])) done ∙ sym (ap records-of (take-more pages i no-page within) ∙ append-records (take i pages) (getD pages i no-page))
+
+-- the page that the code reads
+pub page-read : (pages : List Page) (count i : ℕ) → i < count → count ≤ length pages → At (take count pages) i (getD pages i no-page)
+page-read pages count i lt le =
+    let p = getD pages i no-page in
+    (omega (arith, length-take-le count pages le), getD-take count pages i p lt ∙ getD-default pages i p no-page (omega arith))
 
 -- whether one page is in force
 pub standing-at : (pages : List Page) (count i : ℕ) → i < count → count ≤ length pages

@@ -5,3 +5,4 @@ pub mod Law
 pub mod Keeps
 pub mod Obeys
 pub mod Searched
+pub mod Widened

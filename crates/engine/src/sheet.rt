@@ -4,6 +4,9 @@ ghost use lib.ListN.{length};
 ghost use Rattle.engine.specs.Book.{Book, blank};
 ghost use Rattle.engine.specs.Law.{SearchLeaves};
 ghost use Rattle.engine.specs.Searched.{Searched};
+ghost use Rattle.engine.specs.Sight.{AllSupports, MeetOf, IsBoundary};
+ghost use Rattle.engine.specs.Widened.{Widened};
+ghost use Rattle.logics.specs.Entailment.{Goal};
 ghost use Rattle.engine.specs.Keeps.{Keeps, answer};
 ghost use Rattle.engine.specs.Obeys.{held, shown, Obeys};
 ghost use Rattle.engine.specs.declared.call.Answer.the-variants.{Entered, Done, Count};
@@ -12,6 +15,7 @@ use crate::call::SheetFault;
 use crate::page::Page;
 use crate::rows::RowTable;
 use crate::table::AxiomTable;
+use base::contains;
 use labels::fault::KindFault;
 use labels::kind::LabelKind;
 use logics::Logic;
@@ -143,5 +147,41 @@ impl<K: LabelKind, L: Logic> Sheet<K, L> {
             Some(n) => Ok(n),
             None => Err(SheetFault::MoreSupports),
         }
+    }
+
+    // The meet of the labels of a set of axioms; of none, the top.
+    fn meet_of(&self, set: u64) -> u32
+        ensures { λ r. ⌜ ((b : Book) → Keeps (K·LabelKind .meaning (now (self .entry) .kind)) (L·Logic .meaning (now (self .entry) .logic)) b (held (now (self .entry) .axioms)) (shown (now (self .entry) .rows)) → MeetOf (K·LabelKind .meaning (now (self .entry) .kind)) b set r) ⌝ }
+    {
+        let mut meet = self.kind.top();
+        for i in 0..self.axioms.count {
+            if contains(set, i as u32) {
+                let page = self.axioms.pages[i];
+                meet = self.kind.meet(meet, page.label);
+            }
+        }
+        meet
+    }
+
+    // The least label above a bound, if there is one, and another label.
+    fn widen(&self, bound: Option<u32>, label: u32) -> Option<u32>
+        ensures { λ r. ⌜ Widened (K·LabelKind .meaning (now (self .entry) .kind)) bound label r ⌝ }
+    {
+        match bound {
+            None => Some(label),
+            Some(v) => Some(self.kind.join(v, label)),
+        }
+    }
+
+    // The least label above the meet of each support; absent where there is none.
+    fn boundary_of(&self, supports: &[u64]) -> Option<u32>
+        ensures { λ r. ⌜ ((b : Book) → Keeps (K·LabelKind .meaning (now (self .entry) .kind)) (L·Logic .meaning (now (self .entry) .logic)) b (held (now (self .entry) .axioms)) (shown (now (self .entry) .rows)) → (g : Goal) → AllSupports (L·Logic .meaning (now (self .entry) .logic)) b g (now (supports .entry)) → IsBoundary (K·LabelKind .meaning (now (self .entry) .kind)) (L·Logic .meaning (now (self .entry) .logic)) b g r) ⌝ }
+    {
+        let mut bound = None;
+        for support in supports {
+            let meet = self.meet_of(*support);
+            bound = self.widen(bound, meet);
+        }
+        bound
     }
 }
