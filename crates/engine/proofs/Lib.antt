@@ -1,4 +1,5 @@
 pub mod Paging
+pub mod Rowing
 pub mod Obeying
 pub mod Entering
 pub mod Changing
