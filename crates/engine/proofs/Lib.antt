@@ -8,3 +8,4 @@ pub mod Sight
 pub mod Force
 pub mod Searching
 pub mod Supporting
+pub mod Reading

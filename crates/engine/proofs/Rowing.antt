@@ -51,7 +51,7 @@ smaller-splits : (g h k : Goal) → Smaller g h → Smaller g k ⊎ Smaller k h
 smaller-splits g h k s =
     ⊎-elim (λ e. inr (subst (λ (x : Goal). Smaller x h) e s)) (⊎-elim inl (λ t. inr (smaller-transitive k g h t s))) (smaller-total g k)
 
-smaller-ranking : Ranking Smaller
+pub smaller-ranking : Ranking Smaller
 smaller-ranking = record { irreflexive = smaller-irreflexive; transitive = smaller-transitive; splits = smaller-splits }
 
 -- the laws of the order of rows

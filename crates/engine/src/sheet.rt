@@ -9,8 +9,8 @@ ghost use Rattle.engine.specs.Widened.{Widened};
 ghost use Rattle.logics.specs.Entailment.{Goal};
 ghost use Rattle.engine.specs.Keeps.{Keeps, answer};
 ghost use Rattle.engine.specs.Obeys.{held, shown, Obeys};
-ghost use Rattle.engine.specs.declared.call.Answer.the-variants.{Entered, Done, Count};
-ghost use Rattle.engine.specs.declared.call.Call.the-variants.{Enter, Withdraw, Relabel, Supports};
+ghost use Rattle.engine.specs.declared.call.Answer.the-variants.{Entered, Done, Count, Bound, RowAt, Seen};
+ghost use Rattle.engine.specs.declared.call.Call.the-variants.{Enter, Withdraw, Relabel, Supports, Boundary, Row, See};
 use crate::call::SheetFault;
 use crate::page::Page;
 use crate::rows::RowTable;
@@ -127,6 +127,51 @@ impl<K: LabelKind, L: Logic> Sheet<K, L> {
             return Err(SheetFault::ShortArea);
         }
         self.search(goal, places, area)
+    }
+
+    // The boundary of a published goal; absent where the goal has no support.
+    pub fn boundary(&self, goal: (u32, u32)) -> Result<Option<u32>, SheetFault>
+        ensures law { λ r. ⌜ Obeys (K·LabelKind .meaning (now (self .entry) .kind)) (L·Logic .meaning (now (self .entry) .logic)) (Boundary goal) (answer Bound r) (now (self .entry) .axioms) (now (self .entry) .rows) (now (self .entry) .axioms) (now (self .entry) .rows) ⌝ }
+    {
+        if !self.logic.takes_goal(goal) {
+            return Err(SheetFault::Logic(LogicFault::GoalNotTaken));
+        }
+        let Some(boundary) = self.rows.lookup(goal) else {
+            return Err(SheetFault::NotPublished);
+        };
+        Ok(boundary)
+    }
+
+    // May the user draw the goal? By the row's boundary alone.
+    pub fn see(&self, user: u32, goal: (u32, u32)) -> Result<bool, SheetFault>
+        ensures law { λ r. ⌜ Obeys (K·LabelKind .meaning (now (self .entry) .kind)) (L·Logic .meaning (now (self .entry) .logic)) (See user goal) (answer Seen r) (now (self .entry) .axioms) (now (self .entry) .rows) (now (self .entry) .axioms) (now (self .entry) .rows) ⌝ }
+    {
+        if !self.logic.takes_goal(goal) {
+            return Err(SheetFault::Logic(LogicFault::GoalNotTaken));
+        }
+        if user as u64 >= self.kind.size() {
+            return Err(SheetFault::Kind(KindFault::NotALabel));
+        }
+        if !self.kind.admits(user) {
+            return Err(SheetFault::Kind(KindFault::NotAdmitted));
+        }
+        let Some(boundary) = self.rows.lookup(goal) else {
+            return Err(SheetFault::NotPublished);
+        };
+        match boundary {
+            None => Ok(false),
+            Some(bound) => Ok(self.kind.at_or_below(user, bound)),
+        }
+    }
+
+    // The goal and the boundary of the row at a place, rows ascending by goal.
+    pub fn row(&self, place: usize) -> Result<((u32, u32), Option<u32>), SheetFault>
+        ensures law { λ r. ⌜ Obeys (K·LabelKind .meaning (now (self .entry) .kind)) (L·Logic .meaning (now (self .entry) .logic)) (Row place) (answer RowAt r) (now (self .entry) .axioms) (now (self .entry) .rows) (now (self .entry) .axioms) (now (self .entry) .rows) ⌝ }
+    {
+        let Some(row) = self.rows.at(place) else {
+            return Err(SheetFault::NotPublished);
+        };
+        Ok((row.goal, row.boundary))
     }
 
     // The search, for a goal that is taken and an area that is wide enough.
