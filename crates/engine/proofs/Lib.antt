@@ -9,3 +9,5 @@ pub mod Force
 pub mod Searching
 pub mod Supporting
 pub mod Reading
+pub mod Publishing
+pub mod Histories

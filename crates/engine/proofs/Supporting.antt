@@ -4,12 +4,16 @@ use mathlib.Core.List.{List, [], _∷_, _++_}
 use mathlib.Core.Logic.{_⊎_, inl, inr}
 use Prim.Native.Nat.{ℕ, _+_, _-_, _≤_, _<_}
 use native.Mathlib.Omega.{arith}
+use native.Mathlib.Decide.{decLt}
 use lib.ListN.{length, replicate, length-append, length-replicate}
+use Rattle.std.specs.declared.option.Option.the-variants.{Some}
 use Rattle.std.specs.declared.result.Result.{Result}
 use Rattle.std.specs.declared.result.Result.the-variants.{Ok, Err}
 use Rattle.labels.specs.Order.{LabelOrder}
-use Rattle.logics.specs.Entailment.{Entailment, Goal, Scrubbed}
+use Rattle.logics.specs.Entailment.{Entailment, Goal, Scrubbed, Askable}
+use Rattle.logics.specs.declared.Record.{Record}
 use Rattle.logics.specs.declared.LogicFault.the-variants.{GoalNotTaken}
+use Rattle.supports.specs.Found.{Found}
 use Rattle.ordered.proofs.Lists.{ascending-fewer}
 use Rattle.ordered.proofs.Sets.{before-ranking}
 use Rattle.engine.specs.declared.table.AxiomTable.{AxiomTable}
@@ -44,6 +48,19 @@ module _ (k : LabelOrder) (l : Entailment) where
   fits ss n places places′ count filled long =
       let size : length places′ ≡ length ss + (length places - n) = ap length filled ∙ simp (length-append, length-replicate) in
       omega arith
+
+  -- whether or not the question could be asked, no more are counted than there are places
+  pub found-within : (records : List Record) (all : ℕ) (g : Goal) (room : ℕ) (places area : List ℕ) (n : ℕ) (places′ area′ : List ℕ) → length places′ ≡ length places
+      → (Askable l records all g room → Found l records all g places area (Some n) places′ area′) → ((Askable l records all g room → ⊥) → Some n ≡ Some 0) → n ≤ length places
+  found-within records all g room places area n places′ area′ long found declined =
+      elim (decLt (length places) n) [
+        | yes gt ↦
+            let never : Askable l records all g room → ⊥ = λ ask. let ((ss, _, count, filled), _) = found ask in omega (arith, fits ss n places places′ count filled long) in
+            let e : Some n ≡ Some 0 = declined never in
+            let z : n ≡ 0 = cc in
+            omega arith
+        | no le ↦ omega arith
+      ]
 
   -- what a search leaves, as the law has it
   pub searched-leaves : (b : Book) (g : Goal) (places area places′ area′ : List ℕ) (r : Result ℕ SheetFault) → Searched l b g places area r places′ area′

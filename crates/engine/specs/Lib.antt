@@ -6,3 +6,4 @@ pub mod Keeps
 pub mod Obeys
 pub mod Searched
 pub mod Widened
+pub mod Makes

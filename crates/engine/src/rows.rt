@@ -74,6 +74,20 @@ impl RowTable {
         }
     }
 
+    // Is there a row of the goal, or a place for one?
+    pub(crate) fn has_room(&self, goal: (u32, u32)) -> bool
+        ensures room { λ r. ⌜ (Ascending ByGoal (take (now (self .entry) .count) (now (self .entry) .rows)) → T r → (length (take (now (self .entry) .count) (now (self .entry) .rows)) < 64) ⊎ ((x : Row) × In x (take (now (self .entry) .count) (now (self .entry) .rows)) × (x .goal ≡ goal))) ⌝ }
+        ensures full { λ r. ⌜ (Ascending ByGoal (take (now (self .entry) .count) (now (self .entry) .rows)) → (T r → ⊥) → (64 ≤ length (take (now (self .entry) .count) (now (self .entry) .rows))) × ((x : Row) → In x (take (now (self .entry) .count) (now (self .entry) .rows)) → x .goal ≡ goal → ⊥)) ⌝ }
+    {
+        if self.count < 64 {
+            return true;
+        }
+        match self.lookup(goal) {
+            Some(_) => true,
+            None => false,
+        }
+    }
+
     // Puts a row in its place, unless one of its goal is there. No where it is not and no place is left.
     pub(crate) fn put(&mut self, row: Row) -> bool
         ensures held { λ r. ⌜ (Ascending ByGoal (take (now (self .entry) .count) (now (self .entry) .rows)) → T r → (((x : Row) × In x (take (now (self .entry) .count) (now (self .entry) .rows)) × (x .goal ≡ row .goal)) × (take (now (self .exit) .count) (now (self .exit) .rows) ≡ take (now (self .entry) .count) (now (self .entry) .rows))) ⊎ (((x : Row) → In x (take (now (self .entry) .count) (now (self .entry) .rows)) → x .goal ≡ row .goal → ⊥) × ((x : Row) → Iff (In x (take (now (self .exit) .count) (now (self .exit) .rows))) ((x ≡ row) ⊎ In x (take (now (self .entry) .count) (now (self .entry) .rows)))) × Ascending ByGoal (take (now (self .exit) .count) (now (self .exit) .rows)) × (length (take (now (self .exit) .count) (now (self .exit) .rows)) ≡ length (take (now (self .entry) .count) (now (self .entry) .rows)) + 1))) ⌝ }

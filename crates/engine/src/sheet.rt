@@ -1,6 +1,7 @@
 ghost use mathlib.Core.Path.{_≡_};
 ghost use Prim.Native.Nat.{_≤_};
 ghost use lib.ListN.{length};
+ghost use Rattle.std.specs.Results.{Cases};
 ghost use Rattle.engine.specs.Book.{Book, blank};
 ghost use Rattle.engine.specs.Law.{SearchLeaves};
 ghost use Rattle.engine.specs.Searched.{Searched};
@@ -10,9 +11,10 @@ ghost use Rattle.logics.specs.Entailment.{Goal};
 ghost use Rattle.engine.specs.Keeps.{Keeps, answer};
 ghost use Rattle.engine.specs.Obeys.{held, shown, Obeys};
 ghost use Rattle.engine.specs.declared.call.Answer.the-variants.{Entered, Done, Count, Bound, RowAt, Seen};
-ghost use Rattle.engine.specs.declared.call.Call.the-variants.{Enter, Withdraw, Relabel, Supports, Boundary, Row, See};
+ghost use Rattle.engine.specs.declared.call.Call.the-variants.{Enter, Withdraw, Relabel, Supports, Publish, Boundary, Row as RowOf, See};
 use crate::call::SheetFault;
 use crate::page::Page;
+use crate::page::Row;
 use crate::rows::RowTable;
 use crate::table::AxiomTable;
 use base::contains;
@@ -129,6 +131,37 @@ impl<K: LabelKind, L: Logic> Sheet<K, L> {
         self.search(goal, places, area)
     }
 
+    // Keeps the goal's boundary as a row; fills the places and answers as `supports` does.
+    pub fn publish(
+        &mut self,
+        goal: (u32, u32),
+        places: &mut [u64],
+        area: &mut [u8],
+    ) -> Result<usize, SheetFault>
+        ensures law { λ r. ⌜ Obeys (K·LabelKind .meaning (now (self .entry) .kind)) (L·Logic .meaning (now (self .entry) .logic)) (Publish goal (length (now (places .entry))) (length (now (area .entry)))) (answer Count r) (now (self .entry) .axioms) (now (self .entry) .rows) (now (self .exit) .axioms) (now (self .exit) .rows) ⌝ }
+        ensures leaves { λ r. ⌜ ((b : Book) → Keeps (K·LabelKind .meaning (now (self .entry) .kind)) (L·Logic .meaning (now (self .entry) .logic)) b (held (now (self .entry) .axioms)) (shown (now (self .entry) .rows)) → SearchLeaves (K·LabelKind .meaning (now (self .entry) .kind)) (L·Logic .meaning (now (self .entry) .logic)) b goal (answer Count r) (record { places = now (places .entry); area = now (area .entry) }) (record { places = now (places .exit); area = now (area .exit) })) ⌝ }
+        ensures kind { λ r. ⌜ now (self .exit) .kind ≡ now (self .entry) .kind ⌝ }
+        ensures logic { λ r. ⌜ now (self .exit) .logic ≡ now (self .entry) .logic ⌝ }
+    {
+        if !self.logic.takes_goal(goal) {
+            return Err(SheetFault::Logic(LogicFault::GoalNotTaken));
+        }
+        if !self.rows.has_room(goal) {
+            return Err(SheetFault::RowsFull);
+        }
+        if area.len() < self.logic.work_bytes() {
+            return Err(SheetFault::ShortArea);
+        }
+        match self.search(goal, places, area) {
+            Ok(n) => {
+                let boundary = self.boundary_of(&places[0..n]);
+                self.rows.put(Row { goal, boundary });
+                Ok(n)
+            }
+            Err(fault) => Err(fault),
+        }
+    }
+
     // The boundary of a published goal; absent where the goal has no support.
     pub fn boundary(&self, goal: (u32, u32)) -> Result<Option<u32>, SheetFault>
         ensures law { λ r. ⌜ Obeys (K·LabelKind .meaning (now (self .entry) .kind)) (L·Logic .meaning (now (self .entry) .logic)) (Boundary goal) (answer Bound r) (now (self .entry) .axioms) (now (self .entry) .rows) (now (self .entry) .axioms) (now (self .entry) .rows) ⌝ }
@@ -166,7 +199,7 @@ impl<K: LabelKind, L: Logic> Sheet<K, L> {
 
     // The goal and the boundary of the row at a place, rows ascending by goal.
     pub fn row(&self, place: usize) -> Result<((u32, u32), Option<u32>), SheetFault>
-        ensures law { λ r. ⌜ Obeys (K·LabelKind .meaning (now (self .entry) .kind)) (L·Logic .meaning (now (self .entry) .logic)) (Row place) (answer RowAt r) (now (self .entry) .axioms) (now (self .entry) .rows) (now (self .entry) .axioms) (now (self .entry) .rows) ⌝ }
+        ensures law { λ r. ⌜ Obeys (K·LabelKind .meaning (now (self .entry) .kind)) (L·Logic .meaning (now (self .entry) .logic)) (RowOf place) (answer RowAt r) (now (self .entry) .axioms) (now (self .entry) .rows) (now (self .entry) .axioms) (now (self .entry) .rows) ⌝ }
     {
         let Some(row) = self.rows.at(place) else {
             return Err(SheetFault::NotPublished);
@@ -184,6 +217,7 @@ impl<K: LabelKind, L: Logic> Sheet<K, L> {
         requires taken { ⌜ L·Logic .meaning (now self .logic) .TakesGoal goal ⌝ }
         requires wide { ⌜ L·Logic .meaning (now self .logic) .bytes ≤ length (now area) ⌝ }
         ensures found { λ r. ⌜ ((b : Book) → Keeps (K·LabelKind .meaning (now (self .entry) .kind)) (L·Logic .meaning (now (self .entry) .logic)) b (held (now (self .entry) .axioms)) (shown (now (self .entry) .rows)) → Searched (L·Logic .meaning (now (self .entry) .logic)) b goal (now (places .entry)) (now (area .entry)) r (now (places .exit)) (now (area .exit))) ⌝ }
+        ensures within { λ r. ⌜ Cases r (λ n. n ≤ length (now (places .entry))) (λ _. Unit {0}) ⌝ }
     {
         let count = self.axioms.count;
         let all = self.axioms.in_force();
