@@ -11,3 +11,4 @@ pub mod Supporting
 pub mod Reading
 pub mod Publishing
 pub mod Histories
+pub mod Unique

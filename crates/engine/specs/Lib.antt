@@ -7,3 +7,4 @@ pub mod Obeys
 pub mod Searched
 pub mod Widened
 pub mod Makes
+pub mod Determined

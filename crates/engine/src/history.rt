@@ -7,6 +7,7 @@ ghost use Rattle.engine.specs.Book.{blank};
 ghost use Rattle.engine.specs.Law.{Run, given};
 ghost use Rattle.engine.specs.Keeps.{answer};
 ghost use Rattle.engine.specs.Makes.{Makes};
+ghost use Rattle.engine.specs.Determined.{Determined};
 use crate::call::Answer;
 use crate::call::Call;
 use crate::call::SheetFault;
@@ -136,6 +137,7 @@ pub fn run<K: LabelKind, L: Logic>(
     area: &mut [u8],
 )
     ensures lawful { λ _. ⌜ Run (K·LabelKind .meaning kind) (L·Logic .meaning logic) blank (record { places = now (places .entry); area = now (area .entry) }) (map (given (length (now (places .entry))) (length (now (area .entry)))) (take (length (now (answers .entry))) (now (calls .entry)))) (take (length (now (calls .entry))) (now (answers .exit))) (record { places = now (places .exit); area = now (area .exit) }) ⌝ }
+    ensures unique { λ _. ⌜ Determined (K·LabelKind .meaning kind) (L·Logic .meaning logic) ⌝ }
     ensures rest { λ _. ⌜ drop (length (now (calls .entry))) (now (answers .exit)) ≡ drop (length (now (calls .entry))) (now (answers .entry)) ⌝ }
 {
     let mut sheet = Sheet::open(kind, logic);

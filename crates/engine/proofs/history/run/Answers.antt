@@ -12,6 +12,7 @@ use Rattle.engine.specs.Keeps.{Keeps}
 use Rattle.engine.specs.Obeys.{held, shown}
 use Rattle.engine.specs.Makes.{Makes}
 use Rattle.engine.proofs.Histories.{run-of, run-step, makes-same, take-fewer, drop-later}
+use Rattle.engine.proofs.Unique.{determined}
 use Rattle.engine.proofs.history.run.Needs as need
 
 pub loop-i-holds : need.loop-i-holds
@@ -67,5 +68,6 @@ returns g c =
           (subst (λ logic. Run (g .K·LabelKind .meaning (s .kind)) (g .L·Logic .meaning logic) blank d (map f (take (length (c .args .answers .now)) calls)) (take (length calls) done) e) (c .open-sheet .ensures .logic)
           (subst (λ (xs : List Answer). Run (g .K·LabelKind .meaning (s .kind)) (g .L·Logic .meaning (s .logic)) blank d (map f (take (length (c .args .answers .now)) calls)) xs e) told
           (subst (λ (cs : List Call). Run (g .K·LabelKind .meaning (s .kind)) (g .L·Logic .meaning (s .logic)) blank d (map f cs) (take (c .loop-i .i) done) e) asked run)));
+      unique = determined (g .K·LabelKind .meaning (c .args .kind)) (g .K·LabelKind·met .lawful (c .args .kind)) (g .L·Logic .meaning (c .args .logic));
       rest = drop-later done (c .args .answers .now) (c .loop-i .i) (length calls) (omega arith) rest;
     }
