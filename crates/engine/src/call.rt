@@ -1,3 +1,5 @@
+ghost use mathlib.Core.Path.{_≡_};
+ghost use Rattle.engine.specs.Law.{number as number-of};
 use labels::fault::KindFault;
 use logics::LogicFault;
 use logics::Record;
@@ -37,4 +39,23 @@ pub enum Answer {
     RowAt(((u32, u32), Option<u32>)),
     Seen(bool),
     Refused(SheetFault),
+}
+
+impl SheetFault {
+    // The number by which the refusal is reported.
+    pub fn number(self) -> u32
+        ensures { λ r. ⌜ r ≡ number-of self ⌝ }
+    {
+        match self {
+            SheetFault::Full => 10,
+            SheetFault::NoSuchAxiom => 11,
+            SheetFault::WithdrawnAlready => 12,
+            SheetFault::ShortArea => 14,
+            SheetFault::MoreSupports => 15,
+            SheetFault::RowsFull => 16,
+            SheetFault::NotPublished => 18,
+            SheetFault::Kind(fault) => fault.number(),
+            SheetFault::Logic(fault) => fault.number(),
+        }
+    }
 }
