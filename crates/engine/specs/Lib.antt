@@ -8,3 +8,4 @@ pub mod Searched
 pub mod Widened
 pub mod Makes
 pub mod Determined
+pub mod Answers

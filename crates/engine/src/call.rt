@@ -1,4 +1,5 @@
 ghost use mathlib.Core.Path.{_≡_};
+ghost use Rattle.engine.specs.Answers.{told};
 ghost use Rattle.engine.specs.Law.{number as number-of};
 use labels::fault::KindFault;
 use logics::LogicFault;
@@ -56,6 +57,18 @@ impl SheetFault {
             SheetFault::NotPublished => 18,
             SheetFault::Kind(fault) => fault.number(),
             SheetFault::Logic(fault) => fault.number(),
+        }
+    }
+}
+
+impl Answer {
+    // The number of the refusal, and 0 where the call was accepted.
+    pub fn refusal(self) -> u32
+        ensures { λ r. ⌜ r ≡ told self .0 ⌝ }
+    {
+        match self {
+            Answer::Refused(fault) => fault.number(),
+            _ => 0,
         }
     }
 }
