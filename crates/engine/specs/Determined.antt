@@ -1,5 +1,5 @@
--- What the law relates is one thing each: the supports of a goal, its boundary, the rows, and after a call the answer and
--- the book.
+-- What the law relates is one thing each: the supports of a goal, its boundary, the rows, and after a call the answer,
+-- the book, and what is left in every place and byte.
 use mathlib.Core.Path.{_≡_}
 use mathlib.Core.List.{List}
 use Prim.Native.Nat.{ℕ}
@@ -10,7 +10,7 @@ use Rattle.engine.specs.declared.call.Call.{Call}
 use Rattle.engine.specs.declared.call.Answer.{Answer}
 use Rattle.engine.specs.Book.{Book}
 use Rattle.engine.specs.Sight.{AllSupports, IsBoundary}
-use Rattle.engine.specs.Law.{RowGoals, Lawfully, Next}
+use Rattle.engine.specs.Law.{RowGoals, Buffers, Lawfully, Leaves, Next}
 
 pub record Determined (k : LabelOrder) (l : Entailment) : Type 0 where
   pub supports : (b : Book) (g : Goal) (ss ts : List ℕ) → AllSupports l b g ss → AllSupports l b g ts → ss ≡ ts
@@ -18,3 +18,4 @@ pub record Determined (k : LabelOrder) (l : Entailment) : Type 0 where
   pub rows : (b : Book) (gs hs : List Goal) → RowGoals b gs → RowGoals b hs → gs ≡ hs
   pub answer : (b : Book) (c : Call) (x y : Answer) → Lawfully k l b c x → Lawfully k l b c y → x ≡ y
   pub book : (b : Book) (c : Call) (d e : Book) → Next k l b c d → Next k l b c e → d ≡ e
+  pub buffers : (b : Book) (c : Call) (x : Answer) (d e f : Buffers) → Leaves k l b c x d e → Leaves k l b c x d f → e ≡ f
