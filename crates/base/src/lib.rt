@@ -1,4 +1,6 @@
 // Sets of the numbers 0 to 63, each stored as one number.
+#![tactic(auto)]
+
 ghost use Rattle.std.specs.Prelude.{◌≡◌, ◌-◌, ◌^◌, ◌<◌, ◌≤◌, T, bit_or};
 ghost use Rattle.base.specs.Bits.{Has};
 ghost use Rattle.base.specs.Words.{Iff};

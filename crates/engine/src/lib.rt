@@ -1,4 +1,6 @@
 // The sheet: axioms with labels, and who may draw which conclusion.
+#![tactic(auto)]
+
 pub mod call;
 mod history;
 pub mod page;

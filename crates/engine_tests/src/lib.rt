@@ -1,4 +1,6 @@
 // Small sheets, call by call.
+#![tactic(auto)]
+
 #[cfg(test)]
 mod tests {
     use engine::Sheet;

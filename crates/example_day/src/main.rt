@@ -1,5 +1,7 @@
 // A course day on a small sheet, made by one call of the engine: axioms are entered, a goal is published and looked at by two
 // users, an axiom is relabelled, and the goal is published and looked at again.
+#![tactic(auto)]
+
 use engine::call::{Answer, Call};
 use engine::run;
 use labels::chain::Chain;

@@ -1,5 +1,7 @@
 // A release list, worked through from beginning to end: which regions have each axiom, which may see what follows
 // from them, and who is admitted as a user. Every fact that it prints is asked of the label kind.
+#![tactic(auto)]
+
 use labels::check::{check_label, check_user};
 use labels::kind::LabelKind;
 use labels::sets::Sets;

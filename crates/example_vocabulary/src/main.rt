@@ -1,4 +1,6 @@
 // A small vocabulary of supplies, and what follows from it. Every answer that it prints is asked of the logic el.
+#![tactic(auto)]
+
 use logics::{El, Logic, Record};
 use std::io;
 

@@ -1,4 +1,6 @@
 // Labels: the four label kinds, behind one interface.
+#![tactic(auto)]
+
 pub mod chain;
 pub mod check;
 pub mod fault;

@@ -1,4 +1,6 @@
 // Worked values of the label kinds, and each limit just inside and just outside.
+#![tactic(auto)]
+
 #[cfg(test)]
 mod tests {
     use labels::chain::Chain;

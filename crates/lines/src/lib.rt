@@ -1,4 +1,6 @@
 // The lines of a sheet file: their forms, where each may stand, and the reading of one.
+#![tactic(auto)]
+
 mod cut;
 pub mod fault;
 pub mod form;

@@ -1,4 +1,6 @@
 // Logics: what they are asked, and what they answer by.
+#![tactic(auto)]
+
 ghost use Rattle.std.specs.Prelude.{◌≡◌, T, length, MatchResult};
 ghost use Rattle.base.specs.Words.{Iff};
 ghost use Rattle.logics.specs.Entailment.{Entailment, Monotone, Askable, marked, Scrubbed};

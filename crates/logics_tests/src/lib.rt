@@ -1,4 +1,6 @@
 // What a caller knows of the two logics by their public contracts alone, and what they answer on examples.
+#![tactic(auto)]
+
 ghost use Rattle.std.specs.Prelude.{T, length};
 ghost use Rattle.base.specs.Words.{Iff};
 ghost use Rattle.logics.specs.El.{el, ElLimits};

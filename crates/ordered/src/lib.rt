@@ -1,4 +1,6 @@
 // Lists in an order, over slices: where a thing belongs, and how it is put there.
+#![tactic(auto)]
+
 ghost use Rattle.std.specs.Prelude.{◌≡◌, ◌<◌, ◌≤◌, T, length, IfErr, MatchResult, slice_index_or};
 ghost use Rattle.base.specs.Words.{Iff};
 ghost use Rattle.ordered.specs.Lists.{Ascending, Ranking, Level, Gap, opened};

@@ -1,4 +1,6 @@
 // Reports, printed into a given output. Bytes that find no room are dropped, and the print is then known to be too long.
+#![tactic(auto)]
+
 ghost use Rattle.std.specs.Prelude.{◌≡◌, [], ◌∷◌, Some, decimal};
 ghost use Rattle.prints.specs.Print.{numbers, axioms, bound, word, boundary_line, support_line, support_lines, sight_line};
 ghost use Rattle.prints.specs.Output.{Adds};

@@ -1,4 +1,6 @@
 // The report of a sheet file.
+#![tactic(auto)]
+
 mod answer;
 pub mod any;
 pub mod fault;

@@ -1,4 +1,6 @@
 // Reads a sheet file from standard input and prints its report, or the line of its refusal.
+#![tactic(auto)]
+
 ghost use Rattle.std.specs.Prelude.{◌≤◌, length, IfOk};
 
 use report::answer_file;

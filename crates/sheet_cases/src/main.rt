@@ -1,5 +1,7 @@
 // Reads many sheet files from standard input, each behind a line with its name and its length, and prints for each its name
 // and what `sheet` prints for the file.
+#![tactic(auto)]
+
 ghost use Rattle.std.specs.Prelude.{◌<◌, ◌≤◌, length, IfSome};
 
 use anyhow::anyhow;

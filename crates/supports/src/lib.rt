@@ -1,4 +1,6 @@
 // The search for all supports of a goal: the minimal sets of axioms that yield it.
+#![tactic(auto)]
+
 ghost use Rattle.std.specs.Prelude.{◌≡◌, ◌-◌, ◌≤◌, ◌++◌, length, take, replicate, Some};
 ghost use Rattle.logics.specs.Entailment.{Askable};
 ghost use Rattle.supports.specs.Found.{Found};

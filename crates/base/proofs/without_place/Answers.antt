@@ -8,11 +8,11 @@ use Rattle.base.proofs.without_place.Goals as goal
 bit : (s i : ℕ) → s < 2 ^ 64 → Has s i → (1 * 2 ^ i) % 2 ^ 64 ≡ 2 ^ i
 bit s i small h = one_shl i 64 (has_below 64 s i small h)
 
-pub overflow-shl-result : goal.overflow-shl-result
-overflow-shl-result c = has_below 64 c.args.set c.args.place (search rules) (c.if-contains.ensures.0 tt)
+pub overflow_shl-result : goal.overflow_shl-result
+overflow_shl-result c = has_below 64 c.args.set c.args.place (search rules) (c.if-contains.ensures.0 tt)
 
-pub overflow-sub-result : goal.overflow-sub-result
-overflow-sub-result c =
+pub overflow_sub-result : goal.overflow_sub-result
+overflow_sub-result c =
     let here = c.if-contains.ensures.0 tt in
     omega (arith, bit c.args.set c.args.place (search rules) here, has_le c.args.set c.args.place here)
 

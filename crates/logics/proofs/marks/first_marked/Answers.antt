@@ -8,8 +8,8 @@ pub bounds-records-place : goal.bounds-records-place
 bounds-records-place c =
     (first_marked c.args.records.now c.args.marks 64 (record { form = 0; a = 0; b = 0; c = 0 }) c.requires.some c.requires.within c.requires.few).within
 
-pub overflow-sub-result : goal.overflow-sub-result
-overflow-sub-result c =
+pub overflow_sub-result : goal.overflow_sub-result
+overflow_sub-result c =
     let f = first_marked c.args.records.now c.args.marks 64 (record { form = 0; a = 0; b = 0; c = 0 }) c.requires.some c.requires.within c.requires.few in
     omega (arith, f.low, bit (count_trailing_zeros 64 c.args.marks) (omega (arith, f.within)))
 
