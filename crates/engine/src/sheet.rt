@@ -32,7 +32,7 @@ pub struct Sheet<K, L> {
 impl<K: LabelKind, L: Logic> Sheet<K, L> {
     // A new sheet, with nothing in it.
     pub fn open(kind: K, logic: L) -> Sheet<K, L>
-        ensures empty { Keeps (K.LabelKind.meaning kind) (L.Logic.meaning logic) blank (held result.axioms) (shown result.rows) }
+        ensures empty { Keeps (K.meaning kind) (L.meaning logic) blank (held result.axioms) (shown result.rows) }
         ensures kind { result.kind ≡ kind }
         ensures logic { result.logic ≡ logic }
     {
@@ -53,14 +53,14 @@ impl<K: LabelKind, L: Logic> Sheet<K, L> {
 
     // How many axioms have been entered, withdrawn ones among them.
     pub fn entered(&self) -> usize
-        ensures { (b : Book) → Keeps (K.LabelKind.meaning self.now.kind) (L.Logic.meaning self.now.logic) b (held self.now.axioms) (shown self.now.rows) → result ≡ length b.pages }
+        ensures { (b : Book) → Keeps (K.meaning self.now.kind) (L.meaning self.now.logic) b (held self.now.axioms) (shown self.now.rows) → result ≡ length b.pages }
     {
         self.axioms.count
     }
 
     // One axiom more, in force; answers its number.
     pub fn enter(&mut self, record: Record, label: u32) -> Result<u32, SheetFault>
-        ensures law { Obeys (K.LabelKind.meaning self.old.kind) (L.Logic.meaning self.old.logic) (Enter «record» label) (answer Entered result) self.old.axioms self.old.rows self.new.axioms self.new.rows }
+        ensures law { Obeys (K.meaning self.old.kind) (L.meaning self.old.logic) (Enter «record» label) (answer Entered result) self.old.axioms self.old.rows self.new.axioms self.new.rows }
         ensures kind { self.new.kind ≡ self.old.kind }
         ensures logic { self.new.logic ≡ self.old.logic }
     {
@@ -84,7 +84,7 @@ impl<K: LabelKind, L: Logic> Sheet<K, L> {
 
     // Takes an axiom out of force.
     pub fn withdraw(&mut self, number: u32) -> Result<(), SheetFault>
-        ensures law { Obeys (K.LabelKind.meaning self.old.kind) (L.Logic.meaning self.old.logic) (Withdraw number) (answer (λ _. Done) result) self.old.axioms self.old.rows self.new.axioms self.new.rows }
+        ensures law { Obeys (K.meaning self.old.kind) (L.meaning self.old.logic) (Withdraw number) (answer (λ _. Done) result) self.old.axioms self.old.rows self.new.axioms self.new.rows }
         ensures kind { self.new.kind ≡ self.old.kind }
         ensures logic { self.new.logic ≡ self.old.logic }
     {
@@ -102,7 +102,7 @@ impl<K: LabelKind, L: Logic> Sheet<K, L> {
 
     // Changes the label of one axiom, and of no other.
     pub fn relabel(&mut self, number: u32, label: u32) -> Result<(), SheetFault>
-        ensures law { Obeys (K.LabelKind.meaning self.old.kind) (L.Logic.meaning self.old.logic) (Relabel number label) (answer (λ _. Done) result) self.old.axioms self.old.rows self.new.axioms self.new.rows }
+        ensures law { Obeys (K.meaning self.old.kind) (L.meaning self.old.logic) (Relabel number label) (answer (λ _. Done) result) self.old.axioms self.old.rows self.new.axioms self.new.rows }
         ensures kind { self.new.kind ≡ self.old.kind }
         ensures logic { self.new.logic ≡ self.old.logic }
     {
@@ -128,8 +128,8 @@ impl<K: LabelKind, L: Logic> Sheet<K, L> {
         places: &mut [u64],
         area: &mut [u8],
     ) -> Result<usize, SheetFault>
-        ensures law { Obeys (K.LabelKind.meaning self.now.kind) (L.Logic.meaning self.now.logic) (Supports goal (length places.old) (length area.old)) (answer Count result) self.now.axioms self.now.rows self.now.axioms self.now.rows }
-        ensures leaves { (b : Book) → Keeps (K.LabelKind.meaning self.now.kind) (L.Logic.meaning self.now.logic) b (held self.now.axioms) (shown self.now.rows) → SearchLeaves (K.LabelKind.meaning self.now.kind) (L.Logic.meaning self.now.logic) b goal (answer Count result) (record { places = places.entry.now; area = area.old }) (record { places = places.exit.now; area = area.new }) }
+        ensures law { Obeys (K.meaning self.now.kind) (L.meaning self.now.logic) (Supports goal (length places.old) (length area.old)) (answer Count result) self.now.axioms self.now.rows self.now.axioms self.now.rows }
+        ensures leaves { (b : Book) → Keeps (K.meaning self.now.kind) (L.meaning self.now.logic) b (held self.now.axioms) (shown self.now.rows) → SearchLeaves (K.meaning self.now.kind) (L.meaning self.now.logic) b goal (answer Count result) (record { places = places.entry.now; area = area.old }) (record { places = places.exit.now; area = area.new }) }
         ensures within { IfOk result (λ n. n ≤ length places.old) }
     {
         if !self.logic.takes_goal(goal) {
@@ -148,8 +148,8 @@ impl<K: LabelKind, L: Logic> Sheet<K, L> {
         places: &mut [u64],
         area: &mut [u8],
     ) -> Result<usize, SheetFault>
-        ensures law { Obeys (K.LabelKind.meaning self.old.kind) (L.Logic.meaning self.old.logic) (Publish goal (length places.old) (length area.old)) (answer Count result) self.old.axioms self.old.rows self.new.axioms self.new.rows }
-        ensures leaves { (b : Book) → Keeps (K.LabelKind.meaning self.old.kind) (L.Logic.meaning self.old.logic) b (held self.old.axioms) (shown self.old.rows) → SearchLeaves (K.LabelKind.meaning self.old.kind) (L.Logic.meaning self.old.logic) b goal (answer Count result) (record { places = places.entry.now; area = area.old }) (record { places = places.exit.now; area = area.new }) }
+        ensures law { Obeys (K.meaning self.old.kind) (L.meaning self.old.logic) (Publish goal (length places.old) (length area.old)) (answer Count result) self.old.axioms self.old.rows self.new.axioms self.new.rows }
+        ensures leaves { (b : Book) → Keeps (K.meaning self.old.kind) (L.meaning self.old.logic) b (held self.old.axioms) (shown self.old.rows) → SearchLeaves (K.meaning self.old.kind) (L.meaning self.old.logic) b goal (answer Count result) (record { places = places.entry.now; area = area.old }) (record { places = places.exit.now; area = area.new }) }
         ensures within { IfOk result (λ n. n ≤ length places.old) }
         ensures kind { self.new.kind ≡ self.old.kind }
         ensures logic { self.new.logic ≡ self.old.logic }
@@ -175,7 +175,7 @@ impl<K: LabelKind, L: Logic> Sheet<K, L> {
 
     // The boundary of a published goal; absent where the goal has no support.
     pub fn boundary(&self, goal: (u32, u32)) -> Result<Option<u32>, SheetFault>
-        ensures law { Obeys (K.LabelKind.meaning self.now.kind) (L.Logic.meaning self.now.logic) (Boundary goal) (answer Bound result) self.now.axioms self.now.rows self.now.axioms self.now.rows }
+        ensures law { Obeys (K.meaning self.now.kind) (L.meaning self.now.logic) (Boundary goal) (answer Bound result) self.now.axioms self.now.rows self.now.axioms self.now.rows }
     {
         if !self.logic.takes_goal(goal) {
             return Err(SheetFault::Logic(LogicFault::GoalNotTaken));
@@ -188,7 +188,7 @@ impl<K: LabelKind, L: Logic> Sheet<K, L> {
 
     // May the user draw the goal? By the row's boundary alone.
     pub fn see(&self, user: u32, goal: (u32, u32)) -> Result<bool, SheetFault>
-        ensures law { Obeys (K.LabelKind.meaning self.now.kind) (L.Logic.meaning self.now.logic) (See user goal) (answer Seen result) self.now.axioms self.now.rows self.now.axioms self.now.rows }
+        ensures law { Obeys (K.meaning self.now.kind) (L.meaning self.now.logic) (See user goal) (answer Seen result) self.now.axioms self.now.rows self.now.axioms self.now.rows }
     {
         if !self.logic.takes_goal(goal) {
             return Err(SheetFault::Logic(LogicFault::GoalNotTaken));
@@ -210,7 +210,7 @@ impl<K: LabelKind, L: Logic> Sheet<K, L> {
 
     // The goal and the boundary of the row at a place, rows ascending by goal.
     pub fn row(&self, place: usize) -> Result<((u32, u32), Option<u32>), SheetFault>
-        ensures law { Obeys (K.LabelKind.meaning self.now.kind) (L.Logic.meaning self.now.logic) (RowOf place) (answer RowAt result) self.now.axioms self.now.rows self.now.axioms self.now.rows }
+        ensures law { Obeys (K.meaning self.now.kind) (L.meaning self.now.logic) (RowOf place) (answer RowAt result) self.now.axioms self.now.rows self.now.axioms self.now.rows }
     {
         let Some(row) = self.rows.at(place) else {
             return Err(SheetFault::NotPublished);
@@ -225,9 +225,9 @@ impl<K: LabelKind, L: Logic> Sheet<K, L> {
         places: &mut [u64],
         area: &mut [u8],
     ) -> Result<usize, SheetFault>
-        requires taken { (L.Logic.meaning self.now.logic).TakesGoal goal }
-        requires wide { (L.Logic.meaning self.now.logic).bytes ≤ length area.old }
-        ensures found { (b : Book) → Keeps (K.LabelKind.meaning self.now.kind) (L.Logic.meaning self.now.logic) b (held self.now.axioms) (shown self.now.rows) → Searched (L.Logic.meaning self.now.logic) b goal places.old area.old result places.new area.new }
+        requires taken { (L.meaning self.now.logic).TakesGoal goal }
+        requires wide { (L.meaning self.now.logic).bytes ≤ length area.old }
+        ensures found { (b : Book) → Keeps (K.meaning self.now.kind) (L.meaning self.now.logic) b (held self.now.axioms) (shown self.now.rows) → Searched (L.meaning self.now.logic) b goal places.old area.old result places.new area.new }
         ensures within { IfOk result (λ n. n ≤ length places.old) }
     {
         let count = self.axioms.count;
@@ -241,7 +241,7 @@ impl<K: LabelKind, L: Logic> Sheet<K, L> {
 
     // The meet of the labels of a set of axioms; of none, the top.
     fn meet_of(&self, set: u64) -> u32
-        ensures { (b : Book) → Keeps (K.LabelKind.meaning self.now.kind) (L.Logic.meaning self.now.logic) b (held self.now.axioms) (shown self.now.rows) → MeetOf (K.LabelKind.meaning self.now.kind) b set result }
+        ensures { (b : Book) → Keeps (K.meaning self.now.kind) (L.meaning self.now.logic) b (held self.now.axioms) (shown self.now.rows) → MeetOf (K.meaning self.now.kind) b set result }
     {
         let mut meet = self.kind.top();
         for i in 0..self.axioms.count {
@@ -255,7 +255,7 @@ impl<K: LabelKind, L: Logic> Sheet<K, L> {
 
     // The least label above a bound, if there is one, and another label.
     fn widen(&self, bound: Option<u32>, label: u32) -> Option<u32>
-        ensures { Widened (K.LabelKind.meaning self.now.kind) bound label result }
+        ensures { Widened (K.meaning self.now.kind) bound label result }
     {
         match bound {
             None => Some(label),
@@ -265,7 +265,7 @@ impl<K: LabelKind, L: Logic> Sheet<K, L> {
 
     // The least label above the meet of each support; absent where there is none.
     fn boundary_of(&self, supports: &[u64]) -> Option<u32>
-        ensures { (b : Book) → Keeps (K.LabelKind.meaning self.now.kind) (L.Logic.meaning self.now.logic) b (held self.now.axioms) (shown self.now.rows) → (g : Goal) → AllSupports (L.Logic.meaning self.now.logic) b g supports.now → IsBoundary (K.LabelKind.meaning self.now.kind) (L.Logic.meaning self.now.logic) b g result }
+        ensures { (b : Book) → Keeps (K.meaning self.now.kind) (L.meaning self.now.logic) b (held self.now.axioms) (shown self.now.rows) → (g : Goal) → AllSupports (L.meaning self.now.logic) b g supports.now → IsBoundary (K.meaning self.now.kind) (L.meaning self.now.logic) b g result }
     {
         let mut bound = None;
         for support in supports {

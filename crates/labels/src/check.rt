@@ -9,7 +9,7 @@ use crate::kind::LabelKind;
 
 // The number is a label of the kind.
 pub fn check_label<K: LabelKind>(kind: &K, label: u32) -> Result<(), KindFault>
-    ensures { MatchResult result (λ _. Label (meaning kind.now) label) (λ f. (Label (meaning kind.now) label → ⊥) × (f ≡ NotALabel)) }
+    ensures { MatchResult result (λ _. Label (K.meaning kind.now) label) (λ f. (Label (K.meaning kind.now) label → ⊥) × (f ≡ NotALabel)) }
 {
     if (label as u64) < kind.size() {
         Ok(())
@@ -20,7 +20,7 @@ pub fn check_label<K: LabelKind>(kind: &K, label: u32) -> Result<(), KindFault>
 
 // The number is a label that is admitted as a user.
 pub fn check_user<K: LabelKind>(kind: &K, user: u32) -> Result<(), KindFault>
-    ensures { MatchResult result (λ _. JoinPrime (meaning kind.now) user) (UserRefused (meaning kind.now) user) }
+    ensures { MatchResult result (λ _. JoinPrime (K.meaning kind.now) user) (UserRefused (K.meaning kind.now) user) }
 {
     check_label(kind, user)?;
     if kind.admits(user) {

@@ -71,7 +71,7 @@ pub trait Logic: Drop {
 
 /// Refuses a record that the logic does not take.
 pub fn take_record<L: Logic>(logic: &L, record: Record) -> Result<(), LogicFault>
-    ensures { MatchResult result (λ _. (meaning logic.now).TakesRecord «record») (λ f. (f ≡ RecordNotTaken) × ((meaning logic.now).TakesRecord «record» → ⊥)) }
+    ensures { MatchResult result (λ _. (L.meaning logic.now).TakesRecord «record») (λ f. (f ≡ RecordNotTaken) × ((L.meaning logic.now).TakesRecord «record» → ⊥)) }
 {
     if logic.takes_record(record) {
         Ok(())
@@ -82,7 +82,7 @@ pub fn take_record<L: Logic>(logic: &L, record: Record) -> Result<(), LogicFault
 
 /// Refuses a goal that the logic does not take.
 pub fn take_goal<L: Logic>(logic: &L, goal: (u32, u32)) -> Result<(), LogicFault>
-    ensures { MatchResult result (λ _. (meaning logic.now).TakesGoal goal) (λ f. (f ≡ GoalNotTaken) × ((meaning logic.now).TakesGoal goal → ⊥)) }
+    ensures { MatchResult result (λ _. (L.meaning logic.now).TakesGoal goal) (λ f. (f ≡ GoalNotTaken) × ((L.meaning logic.now).TakesGoal goal → ⊥)) }
 {
     if logic.takes_goal(goal) {
         Ok(())

@@ -53,7 +53,7 @@ fn within(marks: u64, len: usize) -> bool
 fn all_taken<S: Saturates>(logic: &S, records: &[Record], marks: u64) -> bool
     requires few { length records.now ≤ 64 }
     requires within { marks < 2 ^ length records.now }
-    ensures { Iff (T result) ((x : Axiom) → In x (marked records.now marks) → (plan logic.now).logic.TakesRecord x) }
+    ensures { Iff (T result) ((x : Axiom) → In x (marked records.now marks) → (S.plan logic.now).logic.TakesRecord x) }
 {
     let mut rest = marks;
     while rest != 0 {
@@ -74,7 +74,7 @@ fn askable<S: Saturates>(
     goal: (u32, u32),
     room: usize,
 ) -> bool
-    ensures { Iff (T result) (Askable (plan logic.now).logic records.now marks goal room) }
+    ensures { Iff (T result) (Askable (S.plan logic.now).logic records.now marks goal room) }
 {
     if records.len() > 64 || logic.cells() > room {
         return false;
@@ -84,11 +84,11 @@ fn askable<S: Saturates>(
 
 // Ticks the first cells.
 fn start<S: Saturates>(logic: &S, goal: (u32, u32), area: &mut [u8])
-    requires posed { (plan logic.now).logic.TakesGoal goal }
-    requires wide { (plan logic.now).logic.bytes ≤ length area.old }
-    ensures others { drop (plan logic.now).logic.bytes area.new ≡ drop (plan logic.now).logic.bytes area.old }
-    ensures begun { Begun (plan logic.now) goal area.new }
-    ensures sound { (rs : List Axiom) → Sound (plan logic.now).logic.bytes (May (plan logic.now) rs goal) area.old → Sound (plan logic.now).logic.bytes (May (plan logic.now) rs goal) area.new }
+    requires posed { (S.plan logic.now).logic.TakesGoal goal }
+    requires wide { (S.plan logic.now).logic.bytes ≤ length area.old }
+    ensures others { drop (S.plan logic.now).logic.bytes area.new ≡ drop (S.plan logic.now).logic.bytes area.old }
+    ensures begun { Begun (S.plan logic.now) goal area.new }
+    ensures sound { (rs : List Axiom) → Sound (S.plan logic.now).logic.bytes (May (S.plan logic.now) rs goal) area.old → Sound (S.plan logic.now).logic.bytes (May (S.plan logic.now) rs goal) area.new }
 {
     let (first, second) = logic.firsts(goal);
     tick(area, first);
@@ -103,10 +103,10 @@ fn reach<S: Saturates>(
     goal: (u32, u32),
     area: &mut [u8],
 ) -> bool
-    requires asked { Askable (plan logic.now).logic records.now marks goal (length area.old) }
-    requires blank { (k : ℕ) → k < (plan logic.now).logic.bytes → slice_index area.old k ≡ 0 }
-    ensures answered { Iff (T result) ((plan logic.now).logic.Follows (marked records.now marks) goal) }
-    ensures others { drop (plan logic.now).logic.bytes area.new ≡ drop (plan logic.now).logic.bytes area.old }
+    requires asked { Askable (S.plan logic.now).logic records.now marks goal (length area.old) }
+    requires blank { (k : ℕ) → k < (S.plan logic.now).logic.bytes → slice_index area.old k ≡ 0 }
+    ensures answered { Iff (T result) ((S.plan logic.now).logic.Follows (marked records.now marks) goal) }
+    ensures others { drop (S.plan logic.now).logic.bytes area.new ≡ drop (S.plan logic.now).logic.bytes area.old }
 {
     start(logic, goal, area);
     let place = logic.place(goal);
@@ -126,9 +126,9 @@ pub(crate) fn decide<S: Saturates>(
     goal: (u32, u32),
     area: &mut [u8],
 ) -> bool
-    ensures answered { Askable (plan logic.now).logic records.now marks goal (length area.old) → Iff (T result) ((plan logic.now).logic.Follows (marked records.now marks) goal) × Scrubbed (plan logic.now).logic.bytes area.old area.new }
-    ensures asked { T result → Askable (plan logic.now).logic records.now marks goal (length area.old) }
-    ensures declined { (Askable (plan logic.now).logic records.now marks goal (length area.old) → ⊥) → (T result → ⊥) × (area.new ≡ area.old) }
+    ensures answered { Askable (S.plan logic.now).logic records.now marks goal (length area.old) → Iff (T result) ((S.plan logic.now).logic.Follows (marked records.now marks) goal) × Scrubbed (S.plan logic.now).logic.bytes area.old area.new }
+    ensures asked { T result → Askable (S.plan logic.now).logic records.now marks goal (length area.old) }
+    ensures declined { (Askable (S.plan logic.now).logic records.now marks goal (length area.old) → ⊥) → (T result → ⊥) × (area.new ≡ area.old) }
 {
     if !askable(logic, records, marks, goal, area.len()) {
         return false;

@@ -33,8 +33,8 @@ impl Ranked for u64 {
 
 // Where in an ascending list x stands: the place of an entry that is level with x, or else the gap that x belongs in.
 pub fn place_of<E: Ranked>(list: &[E], x: E) -> Result<usize, usize>
-    ensures found { MatchResult result (λ i. (i < length list.now) × ((d : E) → Level before (slice_index_or list.now i d) x)) (λ p. p ≤ length list.now) }
-    ensures gap { Ascending before list.now → IfErr result (Gap before list.now x) }
+    ensures found { MatchResult result (λ i. (i < length list.now) × ((d : E) → Level E.before (slice_index_or list.now i d) x)) (λ p. p ≤ length list.now) }
+    ensures gap { Ascending E.before list.now → IfErr result (Gap E.before list.now x) }
 {
     let mut low = 0;
     let mut high = list.len();

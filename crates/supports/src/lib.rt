@@ -32,8 +32,8 @@ pub fn find_supports<L: Logic>(
     places: &mut [u64],
     area: &mut [u8],
 ) -> Option<usize>
-    ensures found { Askable (meaning logic.now) records.now all goal (length area.old) → Found (meaning logic.now) records.now all goal places.old area.old result places.new area.new }
-    ensures declined { (Askable (meaning logic.now) records.now all goal (length area.old) → ⊥) → (result ≡ Some 0) × (places.new ≡ replicate (length places.old) 0) × (area.new ≡ area.old) }
+    ensures found { Askable (L.meaning logic.now) records.now all goal (length area.old) → Found (L.meaning logic.now) records.now all goal places.old area.old result places.new area.new }
+    ensures declined { (Askable (L.meaning logic.now) records.now all goal (length area.old) → ⊥) → (result ≡ Some 0) × (places.new ≡ replicate (length places.old) 0) × (area.new ≡ area.old) }
 {
     if !logic.follows(records, all, goal, area) {
         clear_from(places, 0);

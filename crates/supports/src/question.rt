@@ -17,11 +17,11 @@ pub(crate) fn yields<L: Logic>(
     set: u64,
     area: &mut [u8],
 ) -> bool
-    requires askable { Askable (meaning logic.now) records.now all goal (length area.old) }
+    requires askable { Askable (L.meaning logic.now) records.now all goal (length area.old) }
     requires inside { Subset set all }
-    ensures answer { Iff (T result) (Yields (meaning logic.now) records.now (Has all) goal set) }
-    ensures area { Scrubbed (meaning logic.now).bytes area.old area.new }
-    ensures same { Clean (meaning logic.now).bytes area.old → area.new ≡ area.old }
+    ensures answer { Iff (T result) (Yields (L.meaning logic.now) records.now (Has all) goal set) }
+    ensures area { Scrubbed (L.meaning logic.now).bytes area.old area.new }
+    ensures same { Clean (L.meaning logic.now).bytes area.old → area.new ≡ area.old }
 {
     logic.follows(records, set, goal, area)
 }
@@ -36,10 +36,10 @@ fn drop_one<L: Logic>(
     place: u32,
     area: &mut [u8],
 ) -> u64
-    requires askable { Askable (meaning logic.now) records.now all goal (length area.old) }
+    requires askable { Askable (L.meaning logic.now) records.now all goal (length area.old) }
     requires inside { Subset set all }
-    requires clean { Clean (meaning logic.now).bytes area.old }
-    ensures dropped { DroppedOne (meaning logic.now) records.now all goal set place result }
+    requires clean { Clean (L.meaning logic.now).bytes area.old }
+    ensures dropped { DroppedOne (L.meaning logic.now) records.now all goal set place result }
     ensures area { area.new ≡ area.old }
 {
     if !contains(set, place) {
@@ -62,11 +62,11 @@ pub(crate) fn shrink<L: Logic>(
     set: u64,
     area: &mut [u8],
 ) -> u64
-    requires askable { Askable (meaning logic.now) records.now all goal (length area.old) }
+    requires askable { Askable (L.meaning logic.now) records.now all goal (length area.old) }
     requires inside { Subset set all }
-    requires clean { Clean (meaning logic.now).bytes area.old }
-    requires yielding { Yields (meaning logic.now) records.now (Has all) goal set }
-    ensures support { Support (meaning logic.now) records.now (Has all) goal result }
+    requires clean { Clean (L.meaning logic.now).bytes area.old }
+    requires yielding { Yields (L.meaning logic.now) records.now (Has all) goal set }
+    ensures support { Support (L.meaning logic.now) records.now (Has all) goal result }
     ensures inside { Subset result set }
     ensures area { area.new ≡ area.old }
 {

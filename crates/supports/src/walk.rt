@@ -32,12 +32,12 @@ fn fresh<L: Logic>(
     count: usize,
     area: &mut [u8],
 ) -> Next
-    requires askable { Askable (meaning logic.now) records.now all goal (length area.old) }
-    requires clean { Clean (meaning logic.now).bytes area.old }
+    requires askable { Askable (L.meaning logic.now) records.now all goal (length area.old) }
+    requires clean { Clean (L.meaning logic.now).bytes area.old }
     requires few { count ≤ length places.old }
-    requires supports { SomeSupports (meaning logic.now) records.now (Has all) goal (take count places.old) }
+    requires supports { SomeSupports (L.meaning logic.now) records.now (Has all) goal (take count places.old) }
     requires hits { HitsAll out (take count places.old) }
-    ensures next { (may : ℕ) → Foreseen (meaning logic.now) records.now all goal places.old count out may result places.new }
+    ensures next { (may : ℕ) → Foreseen (L.meaning logic.now) records.now all goal places.old count out may result places.new }
     ensures area { area.new ≡ area.old }
 {
     let rest = all & !out;
@@ -63,12 +63,12 @@ fn foresee<L: Logic>(
     count: usize,
     area: &mut [u8],
 ) -> Next
-    requires askable { Askable (meaning logic.now) records.now all goal (length area.old) }
-    requires clean { Clean (meaning logic.now).bytes area.old }
+    requires askable { Askable (L.meaning logic.now) records.now all goal (length area.old) }
+    requires clean { Clean (L.meaning logic.now).bytes area.old }
     requires few { count ≤ length places.old }
-    requires supports { SomeSupports (meaning logic.now) records.now (Has all) goal (take count places.old) }
-    requires earlier { Earlier (meaning logic.now) records.now all goal (take count places.old) out may }
-    ensures next { Foreseen (meaning logic.now) records.now all goal places.old count out may result places.new }
+    requires supports { SomeSupports (L.meaning logic.now) records.now (Has all) goal (take count places.old) }
+    requires earlier { Earlier (L.meaning logic.now) records.now all goal (take count places.old) out may }
+    ensures next { Foreseen (L.meaning logic.now) records.now all goal places.old count out may result places.new }
     ensures area { area.new ≡ area.old }
 {
     let look = look_over(&places[0..count], out);
@@ -95,12 +95,12 @@ pub(crate) fn visit<L: Logic>(
     count: usize,
     area: &mut [u8],
 ) -> Option<usize>
-    requires askable { Askable (meaning logic.now) records.now all goal (length area.old) }
-    requires clean { Clean (meaning logic.now).bytes area.old }
+    requires askable { Askable (L.meaning logic.now) records.now all goal (length area.old) }
+    requires clean { Clean (L.meaning logic.now).bytes area.old }
     requires few { count ≤ length places.old }
-    requires supports { SomeSupports (meaning logic.now) records.now (Has all) goal (take count places.old) }
-    requires earlier { Earlier (meaning logic.now) records.now all goal (take count places.old) out may }
-    ensures visited { Visited (meaning logic.now) records.now all goal places.old count out may result places.new }
+    requires supports { SomeSupports (L.meaning logic.now) records.now (Has all) goal (take count places.old) }
+    requires earlier { Earlier (L.meaning logic.now) records.now all goal (take count places.old) out may }
+    ensures visited { Visited (L.meaning logic.now) records.now all goal places.old count out may result places.new }
     ensures area { area.new ≡ area.old }
 {
     let (support, mut known) = match foresee(
@@ -140,10 +140,10 @@ pub(crate) fn walk_all<L: Logic>(
     places: &mut [u64],
     area: &mut [u8],
 ) -> Option<usize>
-    requires askable { Askable (meaning logic.now) records.now all goal (length area.old) }
-    requires clean { Clean (meaning logic.now).bytes area.old }
-    requires yielding { Yields (meaning logic.now) records.now (Has all) goal all }
-    ensures walked { MatchOption result (MoreThan (meaning logic.now) records.now (Has all) goal (length places.old)) (λ n. (n ≤ length places.old) × AllSupports (meaning logic.now) records.now (Has all) goal (take n places.new)) }
+    requires askable { Askable (L.meaning logic.now) records.now all goal (length area.old) }
+    requires clean { Clean (L.meaning logic.now).bytes area.old }
+    requires yielding { Yields (L.meaning logic.now) records.now (Has all) goal all }
+    ensures walked { MatchOption result (MoreThan (L.meaning logic.now) records.now (Has all) goal (length places.old)) (λ n. (n ≤ length places.old) × AllSupports (L.meaning logic.now) records.now (Has all) goal (take n places.new)) }
     ensures area { area.new ≡ area.old }
 {
     let support = shrink(logic, records, all, goal, all, area);

@@ -8,6 +8,6 @@ returns g c =
     let is = opened_is c.args.list.now c.args.count c.args.place c.args.x room used in
     record {
       room = (λ _. (room, used), λ _. tt);
-      put = λ _. rw c.copy-within.ensures.after is;
+      put = λ _. rw c.copy_within.ensures.after is;
       kept = λ changed. elim (changed tt) [ ];
     }

@@ -2,15 +2,15 @@ use Rattle.std.proofs.Common.{◌+◌, ◌-◌, ◌/◌, ◌<◌, length, arith}
 use Rattle.ordered.proofs.Places.{all_first, all_later}
 use Rattle.ordered.proofs.place_of.Goals as goal
 
-pub loop-low-preserved-then-comes-before : goal.loop-low-preserved-then-comes-before
-loop-low-preserved-then-comes-before g c =
+pub loop-low-preserved-then-comes_before : goal.loop-low-preserved-then-comes_before
+loop-low-preserved-then-comes_before g c =
     let middle = c.loop-low.low + (c.loop-low.high - c.loop-low.low) / 2 in
     let within : middle < length c.args.list.now = omega arith in
     let here = c.index-list-middle in (
       omega arith,
       omega arith,
       λ up. (
-        all_first g.met.E.Ranked.ranking c.args.list.now up c.args.x middle here.result within here.is (c.if-comes-before.ensures.0 tt),
+        all_first g.met.E.Ranked.ranking c.args.list.now up c.args.x middle here.result within here.is (c.if-comes_before.ensures.0 tt),
         (c.loop-low.invariant.2 up).1,
       ),
     )
@@ -24,6 +24,6 @@ loop-low-preserved g c =
       omega arith,
       λ up. (
         (c.loop-low.invariant.2 up).0,
-        all_later g.met.E.Ranked.ranking c.args.list.now up c.args.x middle here.result within here.is (c.if-comes-before-2.ensures.0 tt),
+        all_later g.met.E.Ranked.ranking c.args.list.now up c.args.x middle here.result within here.is (c.if-comes_before-2.ensures.0 tt),
       ),
     )

@@ -12,14 +12,14 @@ returns-then-not-follows g c =
     record {
       found = λ ask.
           let area = (c.follows.ensures.answered ask).1 in (
-            ([], none_found l records c.args.all c.args.goal (g.met.L.Logic.monotone c.args.logic.now) (c.if-not-follows.ensures.answered ask).0.1, refl, c.clear-from.ensures),
+            ([], none_found l records c.args.all c.args.goal (g.met.L.Logic.monotone c.args.logic.now) (c.if-not-follows.ensures.answered ask).0.1, refl, c.clear_from.ensures),
             area,
           );
-      declined = λ never. (refl, rw sub-zero at c.clear-from.ensures, (c.follows.ensures.declined never).1);
+      declined = λ never. (refl, rw sub-zero at c.clear_from.ensures, (c.follows.ensures.declined never).1);
     }
 
-pub walk-all-found-requires : goal.walk-all-found-requires
-walk-all-found-requires g c =
+pub walk_all-found-requires : goal.walk_all-found-requires
+walk_all-found-requires g c =
     let l = g.L.Logic.meaning c.args.logic.now in
     let ask = c.if-not-follows.ensures.asked tt in
     let area = (c.follows.ensures.answered ask).1 in

@@ -50,10 +50,10 @@ returns-in-Supports g c =
     let s = c.args.sheet.now in
     let t = s in
     let P : Call → Type 0 = λ q.
-    Makes (g.K.LabelKind.meaning s.kind) (g.L.Logic.meaning s.logic) (given (length c.args.places.now) (length c.args.area.now) q) c.make-supports.result
-    s.axioms s.rows (record { places = c.args.places.now; area = c.args.area.now }) t.axioms t.rows (record { places = c.make-supports.new.places; area = c.make-supports.new.area }) in
+    Makes (g.K.LabelKind.meaning s.kind) (g.L.Logic.meaning s.logic) (given (length c.args.places.now) (length c.args.area.now) q) c.make_supports.result
+    s.axioms s.rows (record { places = c.args.places.now; area = c.args.area.now }) t.axioms t.rows (record { places = c.make_supports.new.places; area = c.make_supports.new.area }) in
     record {
-      law = subst P (sym c.in-Supports.is) c.make-supports.ensures;
+      law = subst P (sym c.in-Supports.is) c.make_supports.ensures;
       kind = refl;
       logic = refl;
     }
@@ -61,14 +61,14 @@ returns-in-Supports g c =
 pub returns-in-Publish : goal.returns-in-Publish
 returns-in-Publish g c =
     let s = c.args.sheet.now in
-    let t = c.make-publish.new.sheet in
+    let t = c.make_publish.new.sheet in
     let P : Call → Type 0 = λ q.
-    Makes (g.K.LabelKind.meaning s.kind) (g.L.Logic.meaning s.logic) (given (length c.args.places.now) (length c.args.area.now) q) c.make-publish.result
-    s.axioms s.rows (record { places = c.args.places.now; area = c.args.area.now }) t.axioms t.rows (record { places = c.make-publish.new.places; area = c.make-publish.new.area }) in
+    Makes (g.K.LabelKind.meaning s.kind) (g.L.Logic.meaning s.logic) (given (length c.args.places.now) (length c.args.area.now) q) c.make_publish.result
+    s.axioms s.rows (record { places = c.args.places.now; area = c.args.area.now }) t.axioms t.rows (record { places = c.make_publish.new.places; area = c.make_publish.new.area }) in
     record {
-      law = subst P (sym c.in-Publish.is) c.make-publish.ensures.law;
-      kind = c.make-publish.ensures.kind;
-      logic = c.make-publish.ensures.logic;
+      law = subst P (sym c.in-Publish.is) c.make_publish.ensures.law;
+      kind = c.make_publish.ensures.kind;
+      logic = c.make_publish.ensures.logic;
     }
 
 pub returns-in-Boundary : goal.returns-in-Boundary
@@ -92,7 +92,7 @@ returns-in-Row g c =
       law =
           makes_plain (g.K.LabelKind.meaning s.kind) (g.L.Logic.meaning s.logic) (length c.args.places.now) (length c.args.area.now)
           (record { places = c.args.places.now; area = c.args.area.now }) s.axioms s.rows t.axioms t.rows
-          c.args.call (Row c.in-Row.place) c.in-Row.is refl _ c.row-at.result c.row-at.ensures (λ b. refl) c.row.ensures.law;
+          c.args.call (Row c.in-Row.place) c.in-Row.is refl _ c.row_at.result c.row_at.ensures (λ b. refl) c.row.ensures.law;
       kind = refl;
       logic = refl;
     }

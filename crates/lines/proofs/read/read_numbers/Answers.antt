@@ -6,21 +6,21 @@ use Rattle.lines.proofs.read.read_numbers.Goals as goal
 pub returns-then-at-fields : goal.returns-then-at-fields
 returns-then-at-fields c = λ parts p few. so_far_all parts _ _ _ (c.loop-i.invariant.1 parts p few) (inl (omega (arith, length-drop c.loop-i.at c.args.fields.now)))
 
-pub returns-in-err-numbers : goal.returns-in-err-numbers
-returns-in-err-numbers c = λ parts p few.
+pub returns-in_err-numbers : goal.returns-in_err-numbers
+returns-in_err-numbers c = λ parts p few.
     let s = c.loop-i.invariant.1 parts p few in
     let (f, others, is) = field_left _ s.todo s.left (omega (arith, length-drop c.loop-i.at c.args.fields.now)) in
-    let (same, rest) = c.field-end-end.ensures.cut f others (subst (Parted (drop c.loop-i.at c.args.fields.now)) is s.left) in
-    rw c.from-residual.ensures (f, in_todo parts _ _ _ s f others is, λ n small e. c.in-err-numbers.ensures n small (same ∙ e))
+    let (same, rest) = c.field_end-end.ensures.cut f others (subst (Parted (drop c.loop-i.at c.args.fields.now)) is s.left) in
+    rw c.from_residual.ensures (f, in_todo parts _ _ _ s f others is, λ n small e. c.in_err-numbers.ensures n small (same ∙ e))
 
 pub loop-i-preserved : goal.loop-i-preserved
 loop-i-preserved c = (
-  omega (arith, c.field-end-end.ensures.within),
+  omega (arith, c.field_end-end.ensures.within),
   λ parts p few.
       let s = c.loop-i.invariant.1 parts p few in
       let (f, others, is) = field_left _ s.todo s.left (omega (arith, length-drop c.loop-i.at c.args.fields.now)) in
-      let (same, rest) = c.field-end-end.ensures.cut f others (subst (Parted (drop c.loop-i.at c.args.fields.now)) is s.left) in
-      let told = c.in-ok-numbers.ensures in
+      let (same, rest) = c.field_end-end.ensures.cut f others (subst (Parted (drop c.loop-i.at c.args.fields.now)) is s.left) in
+      let told = c.in_ok-numbers.ensures in
       so_far_more parts _ _ _ s f others is _ told.1 (sym same ∙ told.0) (omega arith) _ rest,
 )
 

@@ -2,10 +2,10 @@ use Rattle.std.proofs.Common.{◌≡◌, ◌<◌, length, get_or, take, count_by
 use Rattle.std.proofs.lemmas.List.Sums.{count_by_more_yes, count_by_more_no}
 use Rattle.lines.proofs.Fields.{comma, parted_of, begins_parted}
 use Rattle.lines.proofs.shape.count_fields.Goals as goal
-use Rattle.lines.proofs.shape.count_fields.Goals.{then-b-eq44, else-b-eq44, else-not-is-empty-via-then-not-is-empty+else-rest-ne44, else-not-is-empty-via-else-not-is-empty}
+use Rattle.lines.proofs.shape.count_fields.Goals.{then-b-eq44, else-b-eq44, else-not-is_empty-via-then-not-is_empty+else-rest-ne44, else-not-is_empty-via-else-not-is_empty}
 
 pub returns-then-rest-ne44 : goal.returns-then-rest-ne44
-returns-then-rest-ne44 c = λ fields p. c.if-rest-ne44.true (begins_parted c.args.rest.now fields p (omega (arith, false-eqb (length c.args.rest.now) 0 c.if-not-is-empty.ensures)))
+returns-then-rest-ne44 c = λ fields p. c.if-rest-ne44.true (begins_parted c.args.rest.now fields p (omega (arith, false-eqb (length c.args.rest.now) 0 c.if-not-is_empty.ensures)))
 
 pub loop-b-preserved : goal.loop-b-preserved
 loop-b-preserved c =
@@ -19,9 +19,9 @@ loop-b-preserved c =
 pub returns : goal.returns
 returns c =
     let bs = c.args.rest.now in
-    let begins : 0 < length bs → get_or bs 0 0 ≡ 44 = λ some. elim c.else-not-is-empty.branch [
-      | else-not-is-empty-via-then-not-is-empty+else-rest-ne44 w ↦ w.if-rest-ne44.false
-      | else-not-is-empty-via-else-not-is-empty w ↦ absurd (omega (arith, true-eqb (length bs) 0 w.if-not-is-empty.ensures))
+    let begins : 0 < length bs → get_or bs 0 0 ≡ 44 = λ some. elim c.else-not-is_empty.branch [
+      | else-not-is_empty-via-then-not-is_empty+else-rest-ne44 w ↦ w.if-rest-ne44.false
+      | else-not-is_empty-via-else-not-is_empty w ↦ absurd (omega (arith, true-eqb (length bs) 0 w.if-not-is_empty.ensures))
     ] in
     let (fields, parted, count) = parted_of bs begins in
     (fields, parted, count ∙ ap (count_by comma) (sym (take_all c.loop-b.b-index bs (omega arith))) ∙ sym c.loop-b.invariant.0)

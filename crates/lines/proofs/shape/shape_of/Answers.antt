@@ -18,25 +18,25 @@ same_shape line f rest e g fields s =
     let tail : s.rest ≡ rest = append_cancel_left (opening f) s.rest rest (ap (λ (h : Form). opening h ++ s.rest) (sym same) ∙ sym s.opened ∙ e) in
     (same, subst (λ (bs : List ℕ). Parted bs fields) tail s.parted)
 
-pub returns-in-err-fields : goal.returns-in-err-fields
-returns-in-err-fields c =
+pub returns-in_err-fields : goal.returns-in_err-fields
+returns-in_err-fields c =
     let line = c.args.line.now in
-    let f = c.in-ok-form.form in
-    let (rest, e) = c.in-ok-form.ensures in
-    rw c.from-residual-in-err-fields.ensures (λ g fields s.
-    c.in-err-fields.ensures fields (subst (λ (bs : List ℕ). Parted bs fields) (sym (behind line f rest c.opening-length.result e c.opening-length.ensures)) (same_shape line f rest e g fields s).1))
+    let f = c.in_ok-form.form in
+    let (rest, e) = c.in_ok-form.ensures in
+    rw c.from_residual-in_err-fields.ensures (λ g fields s.
+    c.in_err-fields.ensures fields (subst (λ (bs : List ℕ). Parted bs fields) (sym (behind line f rest c.opening_length.result e c.opening_length.ensures)) (same_shape line f rest e g fields s).1))
 
 pub returns-then-fields-arity : goal.returns-then-fields-arity
 returns-then-fields-arity c =
     let line = c.args.line.now in
-    let f = c.in-ok-form.form in
-    let (rest, e) = c.in-ok-form.ensures in
-    let (fields, parted, count) = c.in-ok-fields.ensures in (
+    let f = c.in_ok-form.form in
+    let (rest, e) = c.in_ok-form.ensures in
+    let (fields, parted, count) = c.in_ok-fields.ensures in (
       fields,
       record {
         rest = rest;
         opened = e;
-        parted = subst (λ (bs : List ℕ). Parted bs fields) (behind line f rest c.opening-length.result e c.opening-length.ensures) parted;
+        parted = subst (λ (bs : List ℕ). Parted bs fields) (behind line f rest c.opening_length.result e c.opening_length.ensures) parted;
         count = count ∙ c.if-fields-arity.true ∙ c.arity.ensures.is;
       },
       omega (arith, count, c.if-fields-arity.true, c.arity.ensures.few),
@@ -45,9 +45,9 @@ returns-then-fields-arity c =
 pub returns-else-fields-arity : goal.returns-else-fields-arity
 returns-else-fields-arity c = λ g others s.
     let line = c.args.line.now in
-    let f = c.in-ok-form.form in
-    let (rest, e) = c.in-ok-form.ensures in
-    let (fields, parted, count) = c.in-ok-fields.ensures in
-    let back : take (length line - c.opening-length.result) (drop c.opening-length.result line) ≡ rest = behind line f rest c.opening-length.result e c.opening-length.ensures in
+    let f = c.in_ok-form.form in
+    let (rest, e) = c.in_ok-form.ensures in
+    let (fields, parted, count) = c.in_ok-fields.ensures in
+    let back : take (length line - c.opening_length.result) (drop c.opening_length.result line) ≡ rest = behind line f rest c.opening_length.result e c.opening_length.ensures in
     let (same, other) = same_shape line f rest e g others s in
     c.if-fields-arity.false (sym count ∙ sym (count_parted rest fields (subst (λ (bs : List ℕ). Parted bs fields) back parted)) ∙ count_parted rest others other ∙ s.count ∙ ap arity same ∙ sym c.arity.ensures.is)

@@ -12,7 +12,7 @@ pub loop-place-preserved : goal.loop-place-preserved
 loop-place-preserved c =
     elim c.if-contains.branch [
       | then-contains w ↦
-          simp (w.self-is, w.out-is) (adds_same (axioms_more c.args.set c.loop-place.place (w.if-contains.ensures.0 tt)) (adds_both c.loop-place.invariant w.after-comma.ensures))
+          simp (w.self-is, w.out-is) (adds_same (axioms_more c.args.set c.loop-place.place (w.if-contains.ensures.0 tt)) (adds_both c.loop-place.invariant w.after_comma.ensures))
       | else-contains w ↦
           simp (w.self-is, w.out-is) (adds_same (axioms_same c.args.set c.loop-place.place w.if-contains.ensures.1) c.loop-place.invariant)
     ]

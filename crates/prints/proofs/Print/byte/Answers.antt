@@ -7,5 +7,5 @@ returns-then-at-out c = rw c.in-Some.is (byte_put _ _ _ c.if-at-out.true)
 pub returns-else-at-out : goal.returns-else-at-out
 returns-else-at-out c = rw c.in-Some.is (byte_too_many _ _ _ c.if-at-out.false)
 
-pub returns-in-default : goal.returns-in-default
-returns-in-default c = rw c.in-default.is (byte_dropped _ _)
+pub returns-in_default : goal.returns-in_default
+returns-in_default c = rw c.in_default.is (byte_dropped _ _)

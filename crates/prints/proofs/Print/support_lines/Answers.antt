@@ -11,7 +11,7 @@ loop-support-init c = adds_none
 pub loop-support-preserved : goal.loop-support-preserved
 loop-support-preserved c =
     let more = take_more c.args.supports.now c.loop-support.support-index 0 (omega arith) in
-    adds_same (support_lines_more c.args.goal _ _ ∙ ap (λ (ss : List ℕ). support_lines c.args.goal ss) (sym more)) (adds_both c.loop-support.invariant c.support-line.ensures)
+    adds_same (support_lines_more c.args.goal _ _ ∙ ap (λ (ss : List ℕ). support_lines c.args.goal ss) (sym more)) (adds_both c.loop-support.invariant c.support_line.ensures)
 
 pub returns : goal.returns
 returns c =

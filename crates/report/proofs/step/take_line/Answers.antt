@@ -15,8 +15,8 @@ silent p w before x f is none m out = ([], subst (λ (h : Form). LinePrints p w 
 
 pub returns-in-Axiom : goal.returns-in-Axiom
 returns-in-Axiom c = λ before behind late few keeping.
-    settles_and _ c.enter-axiom.result _ _ (c.enter-axiom.ensures _ _ before behind c.args.users.now c.in-Axiom.is keeping) (silent _ _ before c.args.line.now (Axiom c.in-Axiom.form) c.in-Axiom.is refl _ _)
+    settles_and _ c.enter_axiom.result _ _ (c.enter_axiom.ensures _ _ before behind c.args.users.now c.in-Axiom.is keeping) (silent _ _ before c.args.line.now (Axiom c.in-Axiom.form) c.in-Axiom.is refl _ _)
 
 pub returns-in-User : goal.returns-in-User
 returns-in-User c = λ before behind late few keeping.
-    settles_and _ c.add-user.result _ _ (c.add-user.ensures _ _ before behind c.in-User.is (few (ap section c.in-User.is)) keeping) (silent _ _ before c.args.line.now User c.in-User.is refl _ _)
+    settles_and _ c.add_user.result _ _ (c.add_user.ensures _ _ before behind c.in-User.is (few (ap section c.in-User.is)) keeping) (silent _ _ before c.args.line.now User c.in-User.is refl _ _)

@@ -11,5 +11,5 @@ returns c =
     let r = c.told-line.result in
     let same : line (r.0, r.1, c.from.result) ≡ fault_line c.args.fault = ap (λ (n : ℕ). line (r.0, r.1, n)) c.from.ensures ∙ ap line c.told-line.ensures in
     (adds_same same
-    (adds_both c.byte.ensures (adds_both c.after-comma.ensures (adds_both c.byte-2.ensures (adds_both c.put-layer.ensures (adds_both c.after-comma-2.ensures c.byte-3.ensures)))))
+    (adds_both c.byte.ensures (adds_both c.after_comma.ensures (adds_both c.byte-2.ensures (adds_both c.put_layer.ensures (adds_both c.after_comma-2.ensures c.byte-3.ensures)))))
     ).behind [] c.args.out.now (rw c.new-print.ensures (refl, omega arith, refl))

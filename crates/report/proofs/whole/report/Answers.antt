@@ -11,7 +11,7 @@ returns-in-Ok c =
         zero_filled _ _ (c.fill.ensures.after (λ y h. h)),
         zero_filled _ _ (c.fill-2.ensures.after (λ y h. h)),
         short,
-        (t, print, count, room, cleared_from t c.outcome-of-outcome.new.output c.args.output.now c.fill-in-Ok.new.self c.in-Ok.length count printed c.outcome-of-outcome.auto.output (c.fill-in-Ok.ensures.after (λ y h. h))),
+        (t, print, count, room, cleared_from t c.outcome_of-outcome.new.output c.args.output.now c.fill-in-Ok.new.self c.in-Ok.length count printed c.outcome_of-outcome.auto.output (c.fill-in-Ok.ensures.after (λ y h. h))),
       );
       unique = one_outcome _ _ _ _;
       inverse = read_back _ _;

@@ -7,8 +7,8 @@ use Rattle.supports.proofs.question.shrink.Goals as goal
 pub loop-place-preserved : goal.loop-place-preserved
 loop-place-preserved g c =
     let (same, shrunk) = c.loop-place.invariant in (
-      c.drop-one-left.ensures.area ∙ same,
-      shrink_one _ (g.met.L.Logic.monotone c.args.logic.now) _ _ _ _ _ _ shrunk _ c.drop-one-left.ensures.dropped,
+      c.drop_one-left.ensures.area ∙ same,
+      shrink_one _ (g.met.L.Logic.monotone c.args.logic.now) _ _ _ _ _ _ shrunk _ c.drop_one-left.ensures.dropped,
     )
 
 pub returns : goal.returns

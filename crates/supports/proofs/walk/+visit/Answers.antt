@@ -8,7 +8,7 @@ use Rattle.supports.proofs.Growing.{grown_none, grown_trans}
 use Rattle.supports.proofs.Finding.{support_small}
 use Rattle.supports.proofs.Branching.{Allowed, allowed_none, allowed_more, allowed_same, allowed_less, branches_none, branches_more, branches_skip}
 use Rattle.supports.proofs.walk.+visit.Goals as goal
-use Rattle.supports.proofs.walk.+visit.Goals.{then-contains+in-ok-known, else-contains}
+use Rattle.supports.proofs.walk.+visit.Goals.{then-contains+in_ok-known, else-contains}
 
 pub returns-in-Stop : goal.returns-in-Stop
 returns-in-Stop g t c =
@@ -57,9 +57,9 @@ visit-requires g t c κs within =
               few,
               (
                 grown.supports,
-                branch_earlier l records all goal known c.args.out c.args.may c.in-Split.support c.loop-x.x c.with-place.result c.loop-x.allowed
+                branch_earlier l records all goal known c.args.out c.args.may c.in-Split.support c.loop-x.x c.with_place.result c.loop-x.allowed
                     (grown.keeps c.in-Split.support is_Known) apart both.0 both.1
-                    (λ k. rw (c.with-place.ensures.within c.loop-x-test.true) (has_with c.args.out c.loop-x.x k)) allowed earlier branches,
+                    (λ k. rw (c.with_place.ensures.within c.loop-x-test.true) (has_with c.args.out c.loop-x.x k)) allowed earlier branches,
               ),
             ),
           ),
@@ -89,19 +89,19 @@ loop-x-preserved g t c =
     (area ≡ c.foresee.new.area) × (n ≤ length places) × Grown l records all goal first (take n places)
     × Branches l records all goal (take n places) out may support (x + 1) × Allowed may support left (x + 1) in
     elim c.if-contains.branch [
-      | then-contains+in-ok-known w ↦
+      | then-contains+in_ok-known w ↦
           let both = (has_and may support x).0 (w.if-contains.ensures.0 tt) in
-          let (few', grown', done) = w.in-ok-known.ensures.visited in
-          let more = take w.in-ok-known.known w.visit.new.places in
-          let next : (k : ℕ) → Iff (Has w.with-place.result k) (Has out k ⊎ (k ≡ x)) =
-          λ k. rw (w.with-place.ensures.within c.loop-x-test.true) (has_with out x k) in
-          let left : Allowed may support w.with-place-allowed.result (x + 1) =
-          rw (w.with-place-allowed.ensures.within c.loop-x-test.true) (allowed_more may support c.loop-x.allowed x both.0 both.1 allowed) in
-          let kept : Inv w.visit.new.area w.in-ok-known.known w.visit.new.places w.with-place-allowed.result = (
+          let (few', grown', done) = w.in_ok-known.ensures.visited in
+          let more = take w.in_ok-known.known w.visit.new.places in
+          let next : (k : ℕ) → Iff (Has w.with_place.result k) (Has out k ⊎ (k ≡ x)) =
+          λ k. rw (w.with_place.ensures.within c.loop-x-test.true) (has_with out x k) in
+          let left : Allowed may support w.with_place-allowed.result (x + 1) =
+          rw (w.with_place-allowed.ensures.within c.loop-x-test.true) (allowed_more may support c.loop-x.allowed x both.0 both.1 allowed) in
+          let kept : Inv w.visit.new.area w.in_ok-known.known w.visit.new.places w.with_place-allowed.result = (
             w.visit.ensures.area ∙ same,
             omega (arith, few'),
             grown_trans l records all goal first known more grown grown',
-            branches_more l records all goal known more out may support x w.with-place.result c.loop-x.allowed grown' next allowed done branches,
+            branches_more l records all goal known more out may support x w.with_place.result c.loop-x.allowed grown' next allowed done branches,
             left,
           ) in
           told Inv w.area-is w.known-is w.places-is w.allowed-is kept

@@ -7,7 +7,7 @@ use Rattle.supports.proofs.walk.foresee.Goals as goal
 pub returns-then-look-out : goal.returns-then-look-out
 returns-then-look-out g c =
     let known = take c.args.count c.args.places.now in
-    let looked = simp sub-zero at c.look-over-look.ensures in
+    let looked = simp sub-zero at c.look_over-look.ensures in
     let (e, in_out, unneeded) = not_sole _ c.args.out (search rules) looked.inside c.if-look-out.true in
     record {
       next = (

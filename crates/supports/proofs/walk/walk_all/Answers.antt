@@ -5,11 +5,11 @@ use Rattle.supports.proofs.Growing.{grown_joined, joined_many}
 use Rattle.supports.proofs.Finding.{all_found, none_yet, nothing_out}
 use Rattle.supports.proofs.walk.walk_all.Goals as goal
 
-pub returns-in-default : goal.returns-in-default
-returns-in-default g c =
+pub returns-in_default : goal.returns-in_default
+returns-in_default g c =
     let l = g.L.Logic.meaning c.args.logic.now in
     let records = c.args.records.now in
-    let (full, (more, joined, long)) = c.in-default.ensures.added in
+    let (full, (more, joined, long)) = c.in_default.ensures.added in
     record {
       walked =
           joined_many l records c.args.all c.args.goal [] more c.shrink-support.result (length c.args.places.now)

@@ -13,4 +13,4 @@ loop-a-preserved c = λ u.
     let labels = c.args.labels in
     let Q : ℕ → Type 0 = λ a. (b : ℕ) → b < labels → SplitBits c.args.down.now u a b (entry c.args.joins.now a b) in
     all_more (u < labels) Q c.loop-a.primes _ u c.loop-a.a (c.loop-a.invariant u)
-    (λ l. let row = c.prime-row-primes.ensures u in (λ h. (row.0 h).1, λ q. row.1 (omega arith, q)))
+    (λ l. let row = c.prime_row-primes.ensures u in (λ h. (row.0 h).1, λ q. row.1 (omega arith, q)))

@@ -7,7 +7,7 @@ pub loop-support-preserved : goal.loop-support-preserved
 loop-support-preserved g c = λ b keeps.
     let s = c.args.self.now in
     join_widened (g.K.LabelKind.meaning s.kind) (g.met.K.LabelKind.lawful s.kind) b c.args.supports.now c.loop-support.support-index _ c.loop-support-test.true
-    (c.meet-of-meet.ensures b keeps) _ _ (c.loop-support.invariant b keeps) c.widen-bound.ensures
+    (c.meet_of-meet.ensures b keeps) _ _ (c.loop-support.invariant b keeps) c.widen-bound.ensures
 
 pub returns : goal.returns
 returns g c = λ b keeps goal all.

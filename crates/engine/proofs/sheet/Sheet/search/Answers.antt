@@ -12,12 +12,12 @@ returns-in-Some g c =
     let same = ap (λ (n : ℕ). take n c.records-records.result) (sub-zero s.axioms.count) ∙ c.records-records.ensures in
     record {
       found = λ b keeps.
-          found_all _ _ b (held s.axioms) (shown s.rows) keeps records same _ c.in-force-all.ensures c.args.goal c.args.places.now c.args.area.now c.in-Some.n _ _
+          found_all _ _ b (held s.axioms) (shown s.rows) keeps records same _ c.in_force-all.ensures c.args.goal c.args.places.now c.args.area.now c.in-Some.n _ _
           (c.in-Some.ensures.found
-          (search_askable _ _ b (held s.axioms) (shown s.rows) keeps records same _ c.in-force-all.ensures c.args.goal _ c.requires.taken c.requires.wide));
+          (search_askable _ _ b (held s.axioms) (shown s.rows) keeps records same _ c.in_force-all.ensures c.args.goal _ c.requires.taken c.requires.wide));
       within =
-          found_within (g.K.LabelKind.meaning s.kind) (g.L.Logic.meaning s.logic) records c.in-force-all.result c.args.goal (length c.args.area.now) c.args.places.now c.args.area.now c.in-Some.n _ _
-          c.find-supports.auto.places c.in-Some.ensures.found (λ never. (c.in-Some.ensures.declined never).0);
+          found_within (g.K.LabelKind.meaning s.kind) (g.L.Logic.meaning s.logic) records c.in_force-all.result c.args.goal (length c.args.area.now) c.args.places.now c.args.area.now c.in-Some.n _ _
+          c.find_supports.auto.places c.in-Some.ensures.found (λ never. (c.in-Some.ensures.declined never).0);
     }
 
 pub returns-in-None : goal.returns-in-None
@@ -27,8 +27,8 @@ returns-in-None g c =
     let same = ap (λ (n : ℕ). take n c.records-records.result) (sub-zero s.axioms.count) ∙ c.records-records.ensures in
     record {
       found = λ b keeps.
-          found_more _ _ b (held s.axioms) (shown s.rows) keeps records same _ c.in-force-all.ensures c.args.goal c.args.places.now c.args.area.now _ _
+          found_more _ _ b (held s.axioms) (shown s.rows) keeps records same _ c.in_force-all.ensures c.args.goal c.args.places.now c.args.area.now _ _
           (c.in-None.ensures.found
-          (search_askable _ _ b (held s.axioms) (shown s.rows) keeps records same _ c.in-force-all.ensures c.args.goal _ c.requires.taken c.requires.wide));
+          (search_askable _ _ b (held s.axioms) (shown s.rows) keeps records same _ c.in_force-all.ensures c.args.goal _ c.requires.taken c.requires.wide));
       within = tt;
     }

@@ -19,9 +19,9 @@ loop-rest-init c =
 pub derive-new-requires : goal.derive-new-requires
 derive-new-requires c =
     let ready = c.requires.ready in
-    let given = (c.requires.partners c.args.marks c.first-marked-others.result.0).0 (walk_first _ _ _ _ _ c.first-marked-others.ensures.first c.loop-rest.invariant.0) in
+    let given = (c.requires.partners c.args.marks c.first_marked-others.result.0).0 (walk_first _ _ _ _ _ c.first_marked-others.ensures.first c.loop-rest.invariant.0) in
     let r = (ready.taken c.args.record c.requires.given).source c.requires.form in
-    let p = (ready.taken c.first-marked-others.result.0 given.0).partner given.1 in
+    let p = (ready.taken c.first_marked-others.result.0 given.0).partner given.1 in
     record { wide = omega (arith, ready.wide); first = (omega (arith, p), omega (arith, p)); second = (omega (arith, p), omega (arith, r)); third = (omega (arith, p, r), omega (arith, p, r)) }
 
 pub loop-rest-preserved-then-partner-record : goal.loop-rest-preserved-then-partner-record
@@ -29,8 +29,8 @@ loop-rest-preserved-then-partner-record c =
     let n = c.args.self.now.concepts in
     let x = c.args.x in
     let r = c.args.record in
-    let p = c.first-marked-others.result.0 in
-    let step = c.first-marked-others.ensures in
+    let p = c.first_marked-others.result.0 in
+    let step = c.first_marked-others.ensures in
     let walk = c.loop-rest.invariant.0 in
     let given = (c.requires.partners c.args.marks p).0 (walk_first _ _ _ _ _ step.first walk) in
     let r_in = (c.requires.ready.taken r c.requires.given).source c.requires.form in
@@ -40,9 +40,9 @@ loop-rest-preserved-then-partner-record c =
 
 pub loop-rest-preserved : goal.loop-rest-preserved
 loop-rest-preserved c =
-    let step = c.first-marked-others.ensures in
+    let step = c.first_marked-others.ensures in
     let rule = Pulled c.args.self.now.concepts c.args.x c.args.record in
-    (walk_more _ _ _ _ _ step.first c.loop-rest.invariant.0 step.fewer, round_idle rule _ _ _ c.first-marked-others.result.0 step.first (λ l form role. absurd (c.if-partner-record.false role)) c.loop-rest.invariant.1)
+    (walk_more _ _ _ _ _ step.first c.loop-rest.invariant.0 step.fewer, round_idle rule _ _ _ c.first_marked-others.result.0 step.first (λ l form role. absurd (c.if-partner-record.false role)) c.loop-rest.invariant.1)
 
 pub returns : goal.returns
 returns c =

@@ -12,13 +12,13 @@ loop-rest-init c = (walk_start _ _ c.requires.ready.within, tick_none refl (λ r
 pub settle-new-requires : goal.settle-new-requires
 settle-new-requires c =
     let ready = c.requires.ready in
-    let given = walk_first _ _ _ _ _ c.first-marked-others.ensures.first c.loop-rest.invariant.0 in
+    let given = walk_first _ _ _ _ _ c.first_marked-others.ensures.first c.loop-rest.invariant.0 in
     record { ready = record { few = ready.few; within = ready.within; taken = ready.taken; wide = omega (arith, ready.wide) }; partners = c.requires.partners; row = c.requires.row; given = given }
 
 pub loop-rest-preserved : goal.loop-rest-preserved
 loop-rest-preserved c =
     let rs = marked c.args.records.now c.args.marks in
-    let step = c.first-marked-others.ensures in
+    let step = c.first_marked-others.ensures in
     (walk_more _ _ _ _ _ step.first c.loop-rest.invariant.0 step.fewer, round_more (DrawnAt c.args.self.now.concepts rs c.args.x) _ _ _ _ step.first _ _ c.loop-rest.invariant.1 c.settle-new.ensures)
 
 pub returns : goal.returns

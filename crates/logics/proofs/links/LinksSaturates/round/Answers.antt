@@ -11,14 +11,14 @@ loop-rest-init c = (walk_start _ _ c.requires.within, λ g. tick_none refl (λ r
 
 pub infer-new-requires : goal.infer-new-requires
 infer-new-requires c =
-    let given = walk_first _ _ _ _ _ c.first-marked-others.ensures.first c.loop-rest.invariant.0 in
-    let link = c.requires.taken c.first-marked-others.result.0 given in
+    let given = walk_first _ _ _ _ _ c.first_marked-others.ensures.first c.loop-rest.invariant.0 in
+    let link = c.requires.taken c.first_marked-others.result.0 given in
     (omega (arith, link.from), (omega (arith, link.from), omega (arith, link.to)))
 
 pub loop-rest-preserved : goal.loop-rest-preserved
 loop-rest-preserved c =
-    let r = c.first-marked-others.result.0 in
-    let step = c.first-marked-others.ensures in
+    let r = c.first_marked-others.result.0 in
+    let step = c.first_marked-others.ensures in
     let given = walk_first _ _ _ _ _ step.first c.loop-rest.invariant.0 in
     let link = c.requires.taken r given in
     (walk_more _ _ _ _ _ step.first c.loop-rest.invariant.0 step.fewer, λ g. round_more (λ r. Settled r.a r.a r.b) _ _ _ r step.first _ _ (c.loop-rest.invariant.1 g) (infer_one r.a r.a r.b _ _ _ link.to (omega arith) (λ all here _. leads_on _ r g.0 given link.form (all r.a link.from here)) c.infer-new.ensures.inferred c.infer-new.ensures.settled))

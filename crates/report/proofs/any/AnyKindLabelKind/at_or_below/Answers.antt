@@ -6,7 +6,7 @@ use Rattle.report.specs.declared.any.AnyKind.{AnyKind}
 use Rattle.report.proofs.any.AnyKindLabelKind.at_or_below.Goals as goal
 
 pub returns-in-Chain : goal.returns-in-Chain
-returns-in-Chain c = subst (λ (k : AnyKind). Iff (T c.at-or-below.result) (Under (any_kind k) c.args.a c.args.b)) (sym c.in-Chain.is) c.at-or-below.ensures
+returns-in-Chain c = subst (λ (k : AnyKind). Iff (T c.at_or_below.result) (Under (any_kind k) c.args.a c.args.b)) (sym c.in-Chain.is) c.at_or_below.ensures
 
 pub returns-in-House : goal.returns-in-House
-returns-in-House c = subst (λ (k : AnyKind). Iff (T c.at-or-below-in-House.result) (Under (any_kind k) c.args.a c.args.b)) (sym c.in-House.is) c.at-or-below-in-House.ensures
+returns-in-House c = subst (λ (k : AnyKind). Iff (T c.at_or_below-in-House.result) (Under (any_kind k) c.args.a c.args.b)) (sym c.in-House.is) c.at_or_below-in-House.ensures

@@ -5,11 +5,11 @@ use Rattle.tables.specs.Matrix.{linked_inside, linked_ordered, linked_keeps, loo
 use Rattle.tables.specs.OneProof.{ordered}
 use Rattle.tables.proofs.builder.TableBuilder.add.Goals as goal
 
-pub returns-then-closes-loop : goal.returns-then-closes-loop
-returns-then-closes-loop c =
+pub returns-then-closes_loop : goal.returns-then-closes_loop
+returns-then-closes_loop c =
     let low = c.if-low-labels.false in
     let high = c.if-high-labels.false in
-    let back = c.if-closes-loop.ensures.0 tt in
+    let back = c.if-closes_loop.ensures.0 tt in
     record {
       pairs = λ pairs keeps. (inr ((low, high), looped _ _ [] pairs _ _ low high keeps back.0 back.1, refl), keeps);
       labels = refl;
@@ -21,7 +21,7 @@ invariant-of-self c =
     let self = c.args.self.now in
     let before = ordered _ _ self.ordered in
     let link = c.linked-rows.ensures in
-    let open_ended = c.if-closes-loop.ensures.1 in (
+    let open_ended = c.if-closes_loop.ensures.1 in (
       self.sized,
       (
         linked_inside _ _ _ _ _ self.inside before link,
@@ -36,7 +36,7 @@ returns c =
     let high = c.if-high-labels.false in
     let before = ordered _ _ self.ordered in
     let link = c.linked-rows.ensures in
-    let open_ended = c.if-closes-loop.ensures.1 in
+    let open_ended = c.if-closes_loop.ensures.1 in
     record {
       pairs = λ pairs keeps.
           let after = linked_keeps _ _ _ pairs _ _ low high keeps link in (

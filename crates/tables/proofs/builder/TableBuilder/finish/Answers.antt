@@ -5,24 +5,24 @@ use Rattle.tables.specs.Finishing.{keeps_same, lacks_join, lacks_meet, finished}
 use Rattle.tables.specs.Laws.{made}
 use Rattle.tables.proofs.builder.TableBuilder.finish.Goals as goal
 
-pub join-table-requires : goal.join-table-requires
-join-table-requires c = let self = c.args.self in record { sized = self.sized.1; inside = self.inside; ordered = ordered _ _ self.ordered }
+pub join_table-requires : goal.join_table-requires
+join_table-requires c = let self = c.args.self in record { sized = self.sized.1; inside = self.inside; ordered = ordered _ _ self.ordered }
 
-pub returns-in-default : goal.returns-in-default
-returns-in-default c = λ pairs keeps. (refl, lacks_join _ _ pairs (keeps_same _ _ pairs c.args.self.inside keeps) c.in-default.ensures)
+pub returns-in_default : goal.returns-in_default
+returns-in_default c = λ pairs keeps. (refl, lacks_join _ _ pairs (keeps_same _ _ pairs c.args.self.inside keeps) c.in_default.ensures)
 
-pub join-table-requires-2 : goal.join-table-requires-2
-join-table-requires-2 c =
+pub join_table-requires-2 : goal.join_table-requires-2
+join_table-requires-2 c =
     let self = c.args.self in
     let flip = c.flipped-down.ensures in
     let order = ordered _ _ self.ordered in
     record { sized = self.sized.1; inside = down_inside _ _ _ self.inside order flip; ordered = down_ordered _ _ _ self.inside order flip }
 
-pub returns-in-default-join-table : goal.returns-in-default-join-table
-returns-in-default-join-table c = λ pairs keeps.
+pub returns-in_default-join_table : goal.returns-in_default-join_table
+returns-in_default-join_table c = λ pairs keeps.
     let self = c.args.self in
     let flip = c.flipped-down.ensures in
-    let (a, b, la, lb, none) = c.in-default-join-table.ensures in (
+    let (a, b, la, lb, none) = c.in_default-join_table.ensures in (
       refl,
       lacks_meet _ _ pairs (keeps_same _ _ pairs self.inside keeps)
           (a, b, la, lb, λ m x. none m (greatest_least _ _ _ self.inside (ordered _ _ self.ordered) flip a b m x)),
@@ -33,7 +33,7 @@ invariant-of-result c =
     let self = c.args.self in
     let done =
     finished _ _ _ self.inside (ordered _ _ self.ordered) c.flipped-down.ensures _ _
-    c.in-Some-join-table.ensures c.in-Some.ensures _ _ self.sized.0 c.highest-top.ensures c.prime-set-primes.ensures in
+    c.in-Some-join_table.ensures c.in-Some.ensures _ _ self.sized.0 c.highest-top.ensures c.prime_set-primes.ensures in
     (self.sized, (self.inside, (∣ done ∣₁, tt)))
 
 pub returns : goal.returns
@@ -41,5 +41,5 @@ returns c = λ pairs keeps.
     let self = c.args.self in
     let done =
     finished _ _ _ self.inside (ordered _ _ self.ordered) c.flipped-down.ensures _ _
-    c.in-Some-join-table.ensures c.in-Some.ensures _ _ self.sized.0 c.highest-top.ensures c.prime-set-primes.ensures in
+    c.in-Some-join_table.ensures c.in-Some.ensures _ _ self.sized.0 c.highest-top.ensures c.prime_set-primes.ensures in
     made _ _ _ _ _ _ done pairs self.sized self.inside keeps

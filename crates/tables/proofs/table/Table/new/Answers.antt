@@ -7,25 +7,25 @@ use Rattle.tables.specs.Table.{table, more, PairTaken, PairRefused, TakenUpTo, L
 use Rattle.tables.specs.Rows.{Keeps, matrix}
 use Rattle.tables.proofs.table.Table.new.Goals as goal
 
-pub returns-in-err-add : goal.returns-in-err-add
-returns-in-err-add c =
-    let p = err_from_is_err_and c.from-residual-in-err-add.result c.from-residual-in-err-add.ensures.1 in
+pub returns-in_err-add : goal.returns-in_err-add
+returns-in_err-add c =
+    let p = err_from_is_err_and c.from_residual-in_err-add.result c.from_residual-in_err-add.ensures.1 in
     let pairs = c.args.pairs.now in
     let i = c.loop-pair.pair-index in
     let (same, within, taken, keeps) = c.loop-pair.invariant in
-    let refused = c.in-err-add.ensures.pairs (take i pairs) (rw same keeps) in
-    let P : ℕ → Type 0 = λ n. PairRefused n (take i pairs) (get_or pairs i (0, 0)) c.in-err-add.field-0.0 in
-    rw (p.1, p.2) (inr (c.in-ok-builder.ensures.0, inl (i, c.loop-pair-test.true, taken, subst P same refused.0)))
+    let refused = c.in_err-add.ensures.pairs (take i pairs) (rw same keeps) in
+    let P : ℕ → Type 0 = λ n. PairRefused n (take i pairs) (get_or pairs i (0, 0)) c.in_err-add.field-0.0 in
+    rw (p.1, p.2) (inr (c.in_ok-builder.ensures.0, inl (i, c.loop-pair-test.true, taken, subst P same refused.0)))
 
 pub loop-pair-preserved : goal.loop-pair-preserved
 loop-pair-preserved c =
     let pairs = c.args.pairs.now in
     let i = c.loop-pair.pair-index in
     let (same, within, taken, keeps) = c.loop-pair.invariant in
-    let added = c.in-ok-add.ensures.pairs (take i pairs) (rw same keeps) in
+    let added = c.in_ok-add.ensures.pairs (take i pairs) (rw same keeps) in
     let P : ℕ → Type 0 = λ n. PairTaken n (take i pairs) (get_or pairs i (0, 0)) in
     let Q : ℕ → Type 0 = λ n. Keeps n c.add.new.self.rows (more (take i pairs) (get_or pairs i (0, 0))) in (
-      c.in-ok-add.ensures.labels ∙ same,
+      c.in_ok-add.ensures.labels ∙ same,
       omega arith,
       below_more (λ k. PairTaken c.args.labels (take k pairs) (get_or pairs k (0, 0))) i taken (subst P same added.0),
       subst (Keeps c.args.labels c.add.new.self.rows) (sym (take_more pairs i (0, 0) c.loop-pair-test.true)) (subst Q same added.1),
@@ -35,7 +35,7 @@ pub returns : goal.returns
 returns c =
     let pairs = c.args.pairs.now in
     let labels = c.args.labels in
-    let size = c.in-ok-builder.ensures.0 in
+    let size = c.in_ok-builder.ensures.0 in
     let (same, within, taken, keeps) = c.loop-pair.invariant in
     let last : c.loop-pair.pair-index ≡ length pairs = omega arith in
     let all : TakenUpTo labels pairs (length pairs) = rw last at taken in
