@@ -17,10 +17,10 @@ module _ (n : ℕ) (rows : List ℕ) where
 
   order_one : IsProp (PartialOrder (matrix n rows))
   order_one p q =
-      let reflexive : IsProp ((a : ℕ) → a < n → Under (matrix n rows) a a) = search (props, under_one) in
+      let reflexive : IsProp ((a : ℕ) → a < n → Under (matrix n rows) a a) = hlevel (props, under_one) in
       let antisymmetric : IsProp ((a b : ℕ) → Under (matrix n rows) a b → Under (matrix n rows) b a → a ≡ b) = hlevel props in
       let transitive : IsProp ((a b c : ℕ) → Under (matrix n rows) a b → Under (matrix n rows) b c → Under (matrix n rows) a c) =
-      search (props, under_one) depth 7 in
+      hlevel (props, under_one) in
       λ i. record {
         reflexive = reflexive p.reflexive q.reflexive i;
         antisymmetric = antisymmetric p.antisymmetric q.antisymmetric i;
@@ -32,7 +32,7 @@ module _ (n : ℕ) (rows : List ℕ) where
 
   least_one : (a b j : ℕ) → IsProp (Least (matrix n rows) a b j)
   least_one a b j p q =
-      let least : IsProp ((c : ℕ) → Under (matrix n rows) a c → Under (matrix n rows) b c → Under (matrix n rows) j c) = search (props, under_one) in
+      let least : IsProp ((c : ℕ) → Under (matrix n rows) a c → Under (matrix n rows) b c → Under (matrix n rows) j c) = hlevel (props, under_one) in
       λ i. record {
         left = under_one a j p.left q.left i;
         right = under_one b j p.right q.right i;
@@ -41,7 +41,7 @@ module _ (n : ℕ) (rows : List ℕ) where
 
   greatest_one : (a b m : ℕ) → IsProp (Greatest (matrix n rows) a b m)
   greatest_one a b m p q =
-      let greatest : IsProp ((c : ℕ) → Under (matrix n rows) c a → Under (matrix n rows) c b → Under (matrix n rows) c m) = search (props, under_one) in
+      let greatest : IsProp ((c : ℕ) → Under (matrix n rows) c a → Under (matrix n rows) c b → Under (matrix n rows) c m) = hlevel (props, under_one) in
       λ i. record {
         left = under_one m a p.left q.left i;
         right = under_one m b p.right q.right i;
@@ -50,12 +50,12 @@ module _ (n : ℕ) (rows : List ℕ) where
 
   finished_one : (meets joins : List (List ℕ)) (top primes : ℕ) → IsProp (Finished (matrix n rows) meets joins top primes)
   finished_one meets joins top primes p q =
-      let meet : IsProp (MeetTable (matrix n rows) meets) = search (props, greatest_one) in
-      let join : IsProp (JoinTable (matrix n rows) joins) = search (props, least_one) in
-      let highest : IsProp (Label (matrix n rows) top × Top (matrix n rows) top) = search (props, under_one) in
+      let meet : IsProp (MeetTable (matrix n rows) meets) = hlevel (props, greatest_one) in
+      let join : IsProp (JoinTable (matrix n rows) joins) = hlevel (props, least_one) in
+      let highest : IsProp (Label (matrix n rows) top × Top (matrix n rows) top) = hlevel (props, under_one) in
       let small : (u : ℕ) → IsProp (u < n) = λ u. hlevel props in
       let has : (u : ℕ) → IsProp (Has primes u) = λ u. hlevel props in
-      let split : (u : ℕ) → IsProp ((a b : ℕ) → a < n → b < n → Splits (matrix n rows) u a b (entry joins a b)) = λ u. search (props, under_one) depth 8 in
+      let split : (u : ℕ) → IsProp ((a b : ℕ) → a < n → b < n → Splits (matrix n rows) u a b (entry joins a b)) = λ u. hlevel (props, under_one) in
       let prime : IsProp (PrimeSet (matrix n rows) joins primes) =
       Π_prop (λ u. ×_prop (Π_prop (λ _. ×_prop (small u) (split u))) (Π_prop (λ _. has u))) in
       λ i. record {

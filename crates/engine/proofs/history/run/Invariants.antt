@@ -1,6 +1,6 @@
 use Rattle.std.proofs.Common.{◌≡◌, ◌≤◌, map, length, take, drop}
 use Rattle.engine.specs.Book.{Book, blank}
-use Rattle.engine.specs.Law.{goal as given_of}
+use Rattle.engine.specs.Law.{given as given_of}
 use Rattle.engine.specs.Keeps.{Keeps}
 use Rattle.engine.specs.Obeys.{held, shown}
 use Rattle.engine.proofs.Histories.{RunTo}

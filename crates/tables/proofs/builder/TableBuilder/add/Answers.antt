@@ -16,18 +16,17 @@ returns-then-closes_loop c =
       refused = λ _. refl;
     }
 
-pub invariant-of-self : goal.invariant-of-self
-invariant-of-self c =
+pub invariant_of-self : goal.invariant_of-self
+invariant_of-self c =
     let self = c.args.self.now in
     let before = ordered _ _ self.ordered in
     let link = c.linked-rows.ensures in
-    let open_ended = c.if-closes_loop.ensures.1 in (
-      self.sized,
-      (
-        linked_inside _ _ _ _ _ self.inside before link,
-        (∣ linked_ordered _ _ _ _ _ self.inside before link open_ended ∣₁, tt),
-      ),
-    )
+    let open_ended = c.if-closes_loop.ensures.1 in
+    record {
+      sized = self.sized;
+      inside = linked_inside _ _ _ _ _ self.inside before link;
+      ordered = ∣ linked_ordered _ _ _ _ _ self.inside before link open_ended ∣₁;
+    }
 
 pub returns : goal.returns
 returns c =

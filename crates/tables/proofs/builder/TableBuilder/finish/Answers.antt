@@ -28,13 +28,13 @@ returns-in_default-join_table c = λ pairs keeps.
           (a, b, la, lb, λ m x. none m (greatest_least _ _ _ self.inside (ordered _ _ self.ordered) flip a b m x)),
     )
 
-pub invariant-of-result : goal.invariant-of-result
-invariant-of-result c =
+pub invariant_of-result : goal.invariant_of-result
+invariant_of-result c =
     let self = c.args.self in
     let done =
     finished _ _ _ self.inside (ordered _ _ self.ordered) c.flipped-down.ensures _ _
     c.in-Some-join_table.ensures c.in-Some.ensures _ _ self.sized.0 c.highest-top.ensures c.prime_set-primes.ensures in
-    (self.sized, (self.inside, (∣ done ∣₁, tt)))
+    record { sized = self.sized; inside = self.inside; finished = ∣ done ∣₁ }
 
 pub returns : goal.returns
 returns c = λ pairs keeps.
