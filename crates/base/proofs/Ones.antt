@@ -1,6 +1,6 @@
 -- How many places a set has.
-use Rattle.std.proofs.Common.{◌≡◌, ℕ, zero, suc, ◌/◌, ◌%◌, ◌<◌, ◌≤◌, ◌⊎◌, refl, ap, inl, inr, ⊎_elim, arith}
-use native.Mathlib.Decide.{dec_le, ℕ_discrete}
+use Rattle.std.proofs.Common.{◌≡◌, ℕ, zero, suc, ◌/◌, ◌%◌, ◌<◌, ◌≤◌, refl, ap, inl, inr, arith}
+use native.Mathlib.Decide.{ℕ_discrete}
 use lib.Arith.{bin_ind}
 use lib.Count.{ones, ones_step}
 use Rattle.base.specs.Bits.{Has, AtMostOne}

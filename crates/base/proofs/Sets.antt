@@ -1,6 +1,6 @@
 -- What is in a set that is made of others by `&`, `|` and a shift, and when two sets are one.
 use Rattle.std.proofs.Common.{◌≡◌, ℕ, zero, suc, ◌+◌, ◌-◌, ◌*◌, ◌/◌, ◌%◌, ◌^◌, ◌<◌, ◌≤◌, min, max, ◌⊎◌, sym, refl, ap, ◌∙◌, subst, inl, inr, ⊎_elim, mod-lt, mul_comm, pow-suc, le-div_iff_mul-le, div-one, mul-div_cancel, arith, pow_pos, pow_mono, pow-add}
-use native.Mathlib.Nat.{div-eq_of_lt, div_self, div-div-eq-div-mul, pow-zero, zero-div}
+use native.Mathlib.Nat.{div-eq_of_lt, div_self, div-div-eq-div-mul, zero-div}
 use native.Mathlib.Decide.{dec_lt, ℕ_discrete}
 use lib.Arith.{bin_ind}
 use lib.Pow.{ones_split, ones_lt, high}

@@ -1,5 +1,5 @@
 -- A rule of a table, shown at all of its entries by one test that the checker computes.
-use Rattle.std.proofs.Common.{◌≡◌, ℕ, zero, suc, ◌+◌, ◌<◌, Bool, true, false, ◌&&◌, T, eqb, List, [], ◌∷◌, length, get_or, set, sym, subst, add-zero, add-suc, suc-add, zero-add, arith, eqb→eq, get_or-set_other, get_or-set_same}
+use Rattle.std.proofs.Common.{ℕ, zero, suc, ◌+◌, ◌<◌, Bool, true, false, ◌&&◌, T, eqb, List, [], ◌∷◌, length, get_or, set, sym, subst, add-zero, add-suc, suc-add, zero-add, arith, eqb→eq, get_or-set_other, get_or-set_same}
 use native.Mathlib.Decide.{ℕ_discrete}
 
 pub and_left : (a b : Bool) → T (a && b) → T a

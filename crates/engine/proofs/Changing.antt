@@ -1,24 +1,22 @@
 -- Withdrawing and relabelling an axiom: one page changes, and no other.
-use Rattle.std.proofs.Common.{◌≡◌, ℕ, suc, ◌+◌, ◌-◌, ◌<◌, ◌≤◌, true, ◌⊎◌, List, [], ◌∷◌, ◌++◌, length, sym, refl, ap, ◌∙◌, subst, inl, inr, arith, length-append}
+use Rattle.std.proofs.Common.{◌≡◌, ℕ, ◌-◌, ◌<◌, ◌≤◌, ◌⊎◌, [], length, sym, refl, ap, ◌∙◌, inl, inr, arith}
 use Rattle.labels.specs.Order.{LabelOrder, Label}
 use Rattle.labels.specs.declared.fault.KindFault.TheVariants.{NotALabel}
 use Rattle.logics.specs.Entailment.{Entailment}
-use Rattle.logics.specs.declared.LogicFault.TheVariants.{RecordNotTaken}
-use Rattle.logics.specs.declared.Record.{Record}
 use Rattle.engine.specs.declared.page.Page.{Page}
 use Rattle.engine.specs.declared.table.AxiomTable.{AxiomTable}
 use Rattle.engine.specs.declared.rows.RowTable.{RowTable}
-use Rattle.engine.specs.declared.call.Call.TheVariants.{Enter, Withdraw, Relabel}
-use Rattle.engine.specs.declared.call.Answer.TheVariants.{Entered, Done, Refused}
-use Rattle.engine.specs.declared.call.SheetFault.TheVariants.{Full, NoSuchAxiom, WithdrawnAlready, Kind, Logic}
-use Rattle.engine.specs.Pages.{At, Standing, change, withdrawn, relabelled}
+use Rattle.engine.specs.declared.call.Call.TheVariants.{Withdraw, Relabel}
+use Rattle.engine.specs.declared.call.Answer.TheVariants.{Done, Refused}
+use Rattle.engine.specs.declared.call.SheetFault.TheVariants.{NoSuchAxiom, WithdrawnAlready, Kind}
+use Rattle.engine.specs.Pages.{Standing, change, withdrawn, relabelled}
 use Rattle.engine.specs.Book.{Book}
 use Rattle.base.specs.Words.{Iff}
 use Rattle.engine.specs.Sight.{InForce}
 use Rattle.engine.specs.Law.{NoAxiom}
 use Rattle.engine.specs.Keeps.{Keeps}
 use Rattle.engine.specs.Obeys.{held, shown, Obeys}
-use Rattle.engine.proofs.Obeying.{refused, accepted, keeps_pages, at_more, at_change, length_change, length_held}
+use Rattle.engine.proofs.Obeying.{refused, accepted, keeps_pages, at_change, length_change, length_held}
 
 module _ (k : LabelOrder) (l : Entailment) (axioms : AxiomTable) (rows : RowTable) (n : ℕ) where
   counted : (b : Book) → Keeps k l b (held axioms) (shown rows) → length b.pages ≡ axioms.count

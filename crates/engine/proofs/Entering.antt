@@ -1,5 +1,5 @@
 -- Entering an axiom: the three refusals in their order, and the page that is added.
-use Rattle.std.proofs.Common.{◌≡◌, ℕ, suc, ◌+◌, ◌-◌, ◌<◌, ◌≤◌, true, ◌⊎◌, List, [], ◌∷◌, ◌++◌, length, sym, refl, ap, ◌∙◌, subst, inl, inr, arith, length-append}
+use Rattle.std.proofs.Common.{◌≡◌, ℕ, ◌+◌, ◌<◌, ◌≤◌, true, [], ◌∷◌, ◌++◌, length, sym, refl, ap, ◌∙◌, inl, inr, arith, length-append}
 use Rattle.labels.specs.Order.{LabelOrder, Label}
 use Rattle.labels.specs.declared.fault.KindFault.TheVariants.{NotALabel}
 use Rattle.logics.specs.Entailment.{Entailment}
@@ -8,14 +8,13 @@ use Rattle.logics.specs.declared.Record.{Record}
 use Rattle.engine.specs.declared.page.Page.{Page}
 use Rattle.engine.specs.declared.table.AxiomTable.{AxiomTable}
 use Rattle.engine.specs.declared.rows.RowTable.{RowTable}
-use Rattle.engine.specs.declared.call.Call.TheVariants.{Enter, Withdraw, Relabel}
-use Rattle.engine.specs.declared.call.Answer.TheVariants.{Entered, Done, Refused}
-use Rattle.engine.specs.declared.call.SheetFault.TheVariants.{Full, NoSuchAxiom, WithdrawnAlready, Kind, Logic}
-use Rattle.engine.specs.Pages.{At, Standing, change, withdrawn, relabelled}
+use Rattle.engine.specs.declared.call.Call.TheVariants.{Enter}
+use Rattle.engine.specs.declared.call.Answer.TheVariants.{Entered, Refused}
+use Rattle.engine.specs.declared.call.SheetFault.TheVariants.{Full, Kind, Logic}
 use Rattle.engine.specs.Book.{Book}
 use Rattle.engine.specs.Keeps.{Keeps}
 use Rattle.engine.specs.Obeys.{held, shown, Obeys}
-use Rattle.engine.proofs.Obeying.{refused, accepted, keeps_pages, at_more, at_change, length_change, length_held}
+use Rattle.engine.proofs.Obeying.{refused, accepted, keeps_pages, at_more, length_held}
 
 module _ (k : LabelOrder) (l : Entailment) (axioms : AxiomTable) (rows : RowTable) (r : Record) (a : ℕ) where
   -- the book has as many pages as the table counts

@@ -1,9 +1,8 @@
 -- A call that is refused leaves the book; one that changes a page empties the published goals.
-use Rattle.std.proofs.Common.{◌≡◌, ℕ, zero, suc, ◌+◌, ◌-◌, ◌<◌, ◌≤◌, Bool, true, false, cond, eqb, ◌⊎◌, List, [], ◌∷◌, ◌++◌, length, get_or, sym, refl, ap, ◌∙◌, subst, inl, inr, arith, length-take-le}
-use Rattle.base.specs.Words.{Iff, In}
+use Rattle.std.proofs.Common.{◌≡◌, ℕ, zero, suc, ◌-◌, ◌≤◌, Bool, true, false, cond, eqb, List, [], ◌∷◌, ◌++◌, length, refl, ap, subst, inl, inr, arith, length-take-le}
+use Rattle.base.specs.Words.{In}
 use Rattle.labels.specs.Order.{LabelOrder, Label}
-use Rattle.logics.specs.Entailment.{Entailment, Goal}
-use Rattle.logics.specs.declared.Record.{Record}
+use Rattle.logics.specs.Entailment.{Entailment}
 use Rattle.engine.specs.declared.page.Page.{Page}
 use Rattle.engine.specs.declared.page.Row.{Row}
 use Rattle.engine.specs.declared.table.AxiomTable.{AxiomTable}
@@ -14,7 +13,7 @@ use Rattle.engine.specs.declared.call.Answer.TheVariants.{Refused}
 use Rattle.engine.specs.declared.call.SheetFault.{SheetFault}
 use Rattle.engine.specs.Pages.{At, change}
 use Rattle.engine.specs.Book.{Book, after}
-use Rattle.engine.specs.Law.{RefusedBy, Accepted, Answered, Lawfully, Next}
+use Rattle.engine.specs.Law.{RefusedBy, Accepted, Answered}
 use Rattle.engine.specs.Keeps.{Keeps}
 use Rattle.engine.specs.Obeys.{held, shown, Obeys}
 

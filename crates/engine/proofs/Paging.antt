@@ -1,5 +1,5 @@
 -- A page of the table that is written is that page of the book, changed.
-use Rattle.std.proofs.Common.{◌≡◌, ℕ, zero, suc, ◌+◌, ◌-◌, ◌<◌, ◌≤◌, Bool, true, false, cond, T, eqb, List, [], ◌∷◌, ◌++◌, length, get_or, take, set, sym, refl, ap, ◌∙◌, arith, length-take-le, get_or-take, ne_eqb}
+use Rattle.std.proofs.Common.{◌≡◌, ℕ, zero, suc, ◌+◌, ◌-◌, ◌<◌, ◌≤◌, false, T, eqb, List, [], ◌∷◌, ◌++◌, length, get_or, take, set, sym, refl, ap, ◌∙◌, arith, length-take-le, get_or-take, ne_eqb}
 use Rattle.std.proofs.lemmas.List.{take_more, take_more_set, get_or_default}
 use Rattle.engine.specs.declared.page.Page.{Page}
 use Rattle.base.specs.Bits.{Has}

@@ -1,5 +1,5 @@
 -- The calls that read rows: the boundary of a goal, the row at a place, and what a user may see.
-use Rattle.std.proofs.Common.{◌≡◌, ℕ, zero, suc, ◌<◌, ◌≤◌, Bool, T, ◌⊎◌, List, [], ◌∷◌, map, length, get_or, Option, sym, refl, ap, ◌∙◌, subst, inl, inr, arith, MatchOption}
+use Rattle.std.proofs.Common.{◌≡◌, ℕ, zero, suc, ◌<◌, ◌≤◌, Bool, T, List, [], ◌∷◌, map, length, get_or, Option, sym, refl, ap, subst, inl, inr, arith, MatchOption}
 use Rattle.base.specs.Words.{Iff, In}
 use Rattle.labels.specs.Order.{LabelOrder, Label, Under, JoinPrime, Lawful}
 use Rattle.labels.specs.declared.fault.KindFault.TheVariants.{NotALabel, NotAdmitted}

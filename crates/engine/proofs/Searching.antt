@@ -1,6 +1,6 @@
 -- The search over the table's axioms is the search over the book's.
-use Rattle.std.proofs.Common.{◌≡◌, ℕ, zero, suc, ◌+◌, ◌-◌, ◌/◌, ◌^◌, ◌<◌, ◌≤◌, ◌⊎◌, List, [], ◌∷◌, ◌++◌, length, take, Some, None, Ok, Err, Option, Result, sym, refl, ap, ◌∙◌, subst, inl, inr, ⊎_elim, arith, pow_pos}
-use Rattle.base.specs.Bits.{Has, Subset}
+use Rattle.std.proofs.Common.{◌≡◌, ℕ, suc, ◌-◌, ◌/◌, ◌^◌, ◌<◌, ◌≤◌, List, [], ◌∷◌, length, Some, None, Ok, Err, Option, sym, refl, ap, ◌∙◌, subst, inl, inr, ⊎_elim, arith, pow_pos}
+use Rattle.base.specs.Bits.{Has}
 use Rattle.base.specs.Words.{Iff, In}
 use Rattle.base.proofs.Sets.{has_ones, subset_le}
 use Rattle.labels.specs.Order.{LabelOrder}
@@ -10,7 +10,6 @@ use Rattle.logics.specs.Marked.{in_cons}
 use Rattle.supports.specs.Found.{Found}
 use Rattle.engine.specs.declared.page.Page.{Page}
 use Rattle.engine.specs.declared.page.Row.{Row}
-use Rattle.engine.specs.declared.call.SheetFault.{SheetFault}
 use Rattle.engine.specs.declared.call.SheetFault.TheVariants.{MoreSupports}
 use Rattle.engine.specs.Pages.{At, Standing, records_of}
 use Rattle.engine.specs.Book.{Book}

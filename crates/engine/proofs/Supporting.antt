@@ -1,9 +1,9 @@
 -- Asking for supports: the refusals in their order, the answer, and every place and byte that is left.
-use Rattle.std.proofs.Common.{◌≡◌, ℕ, ◌+◌, ◌-◌, ◌<◌, ◌≤◌, ◌⊎◌, List, [], ◌∷◌, ◌++◌, length, replicate, Some, Ok, Err, Result, sym, refl, ap, ◌∙◌, subst, inl, inr, arith, length-append}
+use Rattle.std.proofs.Common.{◌≡◌, ℕ, ◌+◌, ◌-◌, ◌<◌, ◌≤◌, List, ◌++◌, length, replicate, Some, Ok, Err, Result, sym, refl, ap, ◌∙◌, subst, inl, inr, arith, length-append}
 use native.Mathlib.Decide.{dec_lt}
 use lib.ListN.{length-replicate}
 use Rattle.labels.specs.Order.{LabelOrder}
-use Rattle.logics.specs.Entailment.{Entailment, Goal, Scrubbed, Askable}
+use Rattle.logics.specs.Entailment.{Entailment, Goal, Askable}
 use Rattle.logics.specs.declared.Record.{Record}
 use Rattle.logics.specs.declared.LogicFault.TheVariants.{GoalNotTaken}
 use Rattle.supports.specs.Found.{Found}
@@ -17,7 +17,7 @@ use Rattle.engine.specs.declared.call.SheetFault.{SheetFault}
 use Rattle.engine.specs.declared.call.SheetFault.TheVariants.{ShortArea, MoreSupports, Logic}
 use Rattle.engine.specs.Book.{Book}
 use Rattle.engine.specs.Sight.{AllSupports}
-use Rattle.engine.specs.Law.{MoreThan, SearchLeaves, Buffers}
+use Rattle.engine.specs.Law.{MoreThan, SearchLeaves}
 use Rattle.engine.specs.Keeps.{Keeps, answer}
 use Rattle.engine.specs.Searched.{Searched}
 use Rattle.engine.specs.Obeys.{held, shown, Obeys}

@@ -1,5 +1,5 @@
 -- Supports, boundary, rows, answer and book are determined by the book before the call.
-use Rattle.std.proofs.Common.{◌≡◌, ℕ, ◌-◌, Bool, true, false, T, ◌⊎◌, List, [], ◌∷◌, ◌++◌, length, get_or, take, drop, replicate, Option, sym, refl, ap, ◌∙◌, subst, ap₂, inl, inr, take-append-drop}
+use Rattle.std.proofs.Common.{◌≡◌, ℕ, ◌-◌, Bool, true, false, T, List, ◌++◌, length, get_or, take, drop, replicate, Option, sym, refl, ap, ◌∙◌, subst, ap₂, inl, inr, take-append-drop}
 use Rattle.labels.specs.Order.{LabelOrder, Lawful}
 use Rattle.logics.specs.Entailment.{Entailment, Goal}
 use Rattle.ordered.proofs.Lists.{ascending_unique}

@@ -1,5 +1,5 @@
 -- The book of a sheet's history: a page for each axiom entered, and the published goals.
-use Rattle.std.specs.Prelude.{ℕ, Bool, true, false, cond, List, [], ◌∷◌, ◌++◌, ◌==◌}
+use Rattle.std.specs.Prelude.{Bool, true, false, cond, List, [], ◌∷◌, ◌++◌, ◌==◌}
 use Rattle.logics.specs.Entailment.{Goal}
 use Rattle.engine.specs.Pages.{change, withdrawn, relabelled}
 use Rattle.engine.specs.declared.page.Page.{Page}

@@ -1,5 +1,5 @@
 -- What a sheet holds of the book of its history.
-use Rattle.std.specs.Prelude.{◌≡◌, ℕ, ◌<◌, ◌≤◌, ◌⊎◌, List, map, length, Ok, Err, Result}
+use Rattle.std.specs.Prelude.{◌≡◌, ℕ, ◌≤◌, List, map, length, Ok, Err, Result}
 use Rattle.base.specs.Words.{Iff, In}
 use Rattle.labels.specs.Order.{LabelOrder, Label}
 use Rattle.logics.specs.Entailment.{Entailment, Goal}

@@ -16,7 +16,7 @@ use Rattle.engine.specs.declared.call.SheetFault.{SheetFault}
 use Rattle.engine.specs.declared.call.SheetFault.TheVariants.{Full, NoSuchAxiom, WithdrawnAlready, ShortArea, MoreSupports, RowsFull, NotPublished, Kind, Logic}
 use Rattle.engine.specs.declared.call.Answer.{Answer}
 use Rattle.engine.specs.declared.call.Answer.TheVariants.{Entered, Done, Count, Bound, RowAt, Seen, Refused}
-use Rattle.engine.specs.Book.{Book, blank, after}
+use Rattle.engine.specs.Book.{Book, after}
 use Rattle.engine.specs.Sight.{entries, InForce, AllSupports, IsBoundary, Sees}
 
 -- the number of each fault

@@ -1,5 +1,5 @@
 -- Orders that are the same have the same meets and joins.
-use Rattle.std.proofs.Common.{◌≡◌, ℕ, ◌<◌, ◌≤◌, sym, refl, subst}
+use Rattle.std.proofs.Common.{ℕ, ◌<◌, sym, refl, subst}
 use Rattle.labels.specs.Order.{LabelOrder, Label, Same, Lawful, Means, Least, Greatest}
 
 module _ (k l : LabelOrder) (same : Same k l) where

@@ -2,7 +2,7 @@
 use Rattle.std.proofs.Common.{inl, inr, arith}
 use Rattle.std.specs.Prelude.{ℕ, ◌-◌, ◌<◌, ◌≤◌, min, max}
 use Rattle.std.proofs.Math.Decide.{dec_le}
-use Rattle.labels.specs.Order.{Lawful, JoinPrime, Least, Under}
+use Rattle.labels.specs.Order.{Lawful, JoinPrime, Under}
 use Rattle.labels.specs.Chain.{chain, ChainSize}
 
 module _ (n : ℕ) where

@@ -1,11 +1,11 @@
 -- The house's labels keep the laws of a label kind: the two tables, entry by entry, and which labels are join prime.
-use Rattle.std.specs.Prelude.{◌≡◌, ℕ, ◌+◌, ◌*◌, ◌/◌, ◌%◌, ◌<◌, ◌≤◌, min, max, Bool, T, ◌⊎◌, List, [], ◌∷◌, nat_eq, slice_index, slice_index_or, refl}
+use Rattle.std.specs.Prelude.{◌≡◌, ℕ, ◌+◌, ◌*◌, ◌%◌, ◌<◌, ◌≤◌, min, max, Bool, T, ◌⊎◌, List, [], ◌∷◌, nat_eq, slice_index, slice_index_or, refl}
 use Rattle.std.proofs.Common.{inl, inr, arith, eqb→eq}
 use Rattle.std.proofs.Math.Decide.{dec_le, ℕ_discrete}
 use Rattle.base.specs.Words.{In}
 use Rattle.base.proofs.Tables.{square, at_entry}
 use Rattle.labels.specs.Order.{Lawful, JoinPrime, Greatest, Least, Under}
-use Rattle.labels.specs.House.{house, sales, service, export, PartByPart}
+use Rattle.labels.specs.House.{house, sales, service, export}
 
 -- the label whose parts are found from those of a and b, one by one
 abbrev by_parts : (ℕ → ℕ → ℕ) → ℕ → ℕ → ℕ

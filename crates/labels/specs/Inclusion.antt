@@ -1,14 +1,13 @@
 -- Sets of regions keep the laws of a label kind, and those of at most one region are join prime.
-use Rattle.std.specs.Prelude.{◌≡◌, ℕ, ◌-◌, ◌^◌, ◌<◌, ◌≤◌, ◌⊎◌, bit_and, bit_or, refl}
+use Rattle.std.specs.Prelude.{ℕ, ◌-◌, ◌^◌, ◌<◌, ◌⊎◌, bit_and, bit_or, refl}
 use Rattle.std.proofs.Common.{sym, subst, inl, inr, ⊎_elim, arith, pow_pos, pow_mono}
 use Rattle.std.proofs.Math.Decide.{ℕ_discrete}
 use Rattle.std.proofs.Math.Pow.{pow-lt, ones_lt}
 use Rattle.std.specs.Int.Bits.{and_lt}
-use Rattle.std.proofs.lemmas.Nat.{or_lt, and_le_r}
+use Rattle.std.proofs.lemmas.Nat.{or_lt}
 use Rattle.base.specs.Bits.{Has, Subset, AtMostOne}
-use Rattle.base.specs.Words.{Iff}
 use Rattle.base.proofs.Sets.{has_and, has_or, has_or_left, has_or_right, has_below, has_ones, has_single, has_without, same_set, some_place, has_zero}
-use Rattle.labels.specs.Order.{Lawful, JoinPrime, Greatest, Least, Under, Label, Top}
+use Rattle.labels.specs.Order.{Lawful, JoinPrime, Greatest, Least, Under, Top}
 use Rattle.labels.specs.Sets.{sets, SetsSize}
 
 module _ (r : ℕ) where

@@ -1,13 +1,11 @@
 -- From what was found of a line to the line.
-use Rattle.std.proofs.Common.{◌≡◌, ℕ, ◌+◌, ◌-◌, ◌<◌, ◌≤◌, List, [], ◌∷◌, ◌++◌, map, length, get_or, take, drop, replicate, decimal, Option, sym, refl, ap, ◌∙◌, subst, ap₂, append_assoc, arith, length-append, length-take-le, take_all}
+use Rattle.std.proofs.Common.{◌≡◌, ℕ, ◌+◌, ◌-◌, ◌<◌, ◌≤◌, List, [], ◌∷◌, ◌++◌, map, length, get_or, take, drop, replicate, decimal, Option, sym, ap, ◌∙◌, subst, append_assoc, arith, length-append, length-take-le, take_all}
 use native.Mathlib.Nat.{sub-zero}
 use Rattle.std.proofs.lemmas.List.{drop-take, drop_at}
 use Rattle.base.specs.Words.{In}
 use Rattle.base.specs.Commas.{tails}
 use Rattle.lines.specs.declared.form.Form.{Form}
-use Rattle.lines.specs.declared.form.Line.{Line}
 use Rattle.lines.specs.Forms.{opening, arity, May}
-use Rattle.lines.specs.Lines.{Whole, text, body}
 use Rattle.lines.specs.Reading.{Parted, Shaped, Ended, Numbered, Next}
 use Rattle.lines.proofs.Fields.{bare_take, cut_at}
 

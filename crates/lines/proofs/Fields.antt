@@ -1,11 +1,11 @@
 -- Bytes that are cut at a separator.
-use Rattle.std.proofs.Common.{◌≡◌, ℕ, zero, suc, ◌+◌, ◌<◌, ◌≤◌, Bool, true, false, cond, eqb, ◌⊎◌, List, [], ◌∷◌, ◌++◌, length, get_or, take, drop, count_by as count_by_of, sym, refl, ap, ◌∙◌, subst, ap₂, inl, inr, append_assoc, append-nil, add-zero, arith, length-drop, take-append-drop, get_or-drop, eq-eqb, ne_eqb, eqb-true, false-eqb}
+use Rattle.std.proofs.Common.{◌≡◌, ℕ, zero, suc, ◌+◌, ◌<◌, ◌≤◌, Bool, true, false, cond, eqb, ◌⊎◌, List, [], ◌∷◌, ◌++◌, length, get_or, take, drop, count_by as count_by_of, sym, refl, ap, ◌∙◌, subst, ap₂, inl, inr, append-nil, add-zero, arith, length-drop, take-append-drop, get_or-drop, eq-eqb, ne_eqb, eqb-true, false-eqb}
 use borrow.Author.Tests.{eqb-false}
 use Rattle.std.proofs.lemmas.List.{drop_more}
 use Rattle.std.proofs.lemmas.List.Sums.{sum_by-cons, sum_by-append}
 use Rattle.base.specs.Words.{In}
 use Rattle.base.specs.Commas.{tails}
-use Rattle.lines.specs.Reading.{Parted, Ended}
+use Rattle.lines.specs.Reading.{Parted}
 
 -- the separator does not stand in the bytes
 abbrev pub Bare : ℕ → List ℕ → Type 0

@@ -1,9 +1,9 @@
 -- Reading numbers field by field.
-use Rattle.std.proofs.Common.{◌≡◌, ℕ, zero, suc, ◌+◌, ◌-◌, ◌^◌, ◌<◌, ◌≤◌, ◌⊎◌, List, [], ◌∷◌, ◌++◌, map, length, get_or, take, drop, set, replicate, decimal, sym, refl, ap, ◌∙◌, subst, ap₂, inl, inr, append_assoc, append-nil, arith, length-append, length-set, drop-set-lt}
+use Rattle.std.proofs.Common.{◌≡◌, ℕ, zero, suc, ◌+◌, ◌-◌, ◌^◌, ◌<◌, ◌≤◌, ◌⊎◌, List, [], ◌∷◌, ◌++◌, map, length, take, drop, set, replicate, decimal, sym, refl, ap, ◌∙◌, subst, ap₂, inl, inr, append_assoc, append-nil, arith, length-append, length-set, drop-set-lt}
 use mathlib.Core.List.{map-append}
 use Rattle.std.proofs.lemmas.List.{take_more_set, drop-drop, drop-replicate}
 use Rattle.base.specs.Words.{In}
-use Rattle.lines.specs.Reading.{Parted, NoNumber, Numbered}
+use Rattle.lines.specs.Reading.{Parted, Numbered}
 
 -- the first i fields are read, and the others are still to come
 pub record SoFar (parts : List (List ℕ)) (rest : List ℕ) (i : ℕ) (numbers : List ℕ) : Type 0 where

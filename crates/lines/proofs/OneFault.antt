@@ -1,9 +1,9 @@
 -- Text that is refused is refused by one fault.
-use Rattle.std.proofs.Common.{◌≡◌, ℕ, List, [], ◌∷◌, ◌++◌, Option, sym, refl, ap, ◌∙◌, subst, inl, inr}
+use Rattle.std.proofs.Common.{◌≡◌, ℕ, List, [], ◌∷◌, ◌++◌, Option, sym, refl, ◌∙◌, subst, inl, inr}
 use Rattle.base.specs.Words.{In}
 use Rattle.lines.specs.declared.fault.TextFault.{TextFault}
 use Rattle.lines.specs.declared.form.Form.{Form}
-use Rattle.lines.specs.Forms.{opening, May}
+use Rattle.lines.specs.Forms.{May}
 use Rattle.lines.specs.Reading.{Shaped, Ended, TextFails, endless, shapeless, misplaced, unreadable}
 use Rattle.lines.proofs.Fields.{first_part}
 use Rattle.lines.proofs.Openings.{same_opening}

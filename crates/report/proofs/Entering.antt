@@ -1,9 +1,9 @@
 -- The steps of an axiom line and of a user's line.
-use Rattle.std.proofs.Common.{◌≡◌, ℕ, ◌<◌, ◌≤◌, cond, eqb, ◌⊎◌, List, [], ◌∷◌, ◌++◌, map, length, sym, refl, ap, ◌∙◌, subst, ap₂, inl, inr, arith}
+use Rattle.std.proofs.Common.{◌≡◌, ℕ, ◌<◌, cond, eqb, ◌⊎◌, List, [], ◌∷◌, ◌++◌, map, length, sym, refl, ap, ◌∙◌, subst, inl, inr, arith}
 use mathlib.Core.List.{map-append}
 use Rattle.base.specs.Words.{In}
 use Rattle.base.specs.Checks.{FirstOf, NoneOf}
-use Rattle.labels.specs.Order.{LabelOrder, Label, JoinPrime, Same}
+use Rattle.labels.specs.Order.{JoinPrime}
 use Rattle.labels.specs.Fault.{UserRefused}
 use Rattle.labels.specs.declared.fault.KindFault.{KindFault}
 use Rattle.labels.proofs.Orders.{same_sym}
@@ -18,9 +18,7 @@ use Rattle.engine.specs.declared.table.AxiomTable.{AxiomTable}
 use Rattle.engine.specs.declared.rows.RowTable.{RowTable}
 use Rattle.engine.specs.declared.call.SheetFault.{SheetFault}
 use Rattle.engine.specs.declared.call.SheetFault.TheVariants.{Logic as OfLogic}
-use Rattle.engine.specs.declared.call.Call.{Call}
 use Rattle.engine.specs.declared.call.Call.TheVariants.{Enter}
-use Rattle.engine.specs.declared.call.Answer.{Answer}
 use Rattle.engine.specs.declared.call.Answer.TheVariants.{Entered, Refused}
 use Rattle.lines.specs.declared.form.Form.{Form}
 use Rattle.lines.specs.declared.form.Form.TheVariants.{Axiom, User}
@@ -30,7 +28,6 @@ use Rattle.lines.specs.Forms.{section}
 use Rattle.lines.specs.Lines.{lines_of}
 use Rattle.report.specs.declared.any.AnyKind.{AnyKind}
 use Rattle.report.specs.declared.any.AnyLogic.{AnyLogic}
-use Rattle.report.specs.declared.fault.Cause.{Cause}
 use Rattle.report.specs.declared.fault.Cause.TheVariants.{Sheet, Kind}
 use Rattle.report.specs.declared.users.Users.{Users}
 use Rattle.report.specs.Any.{any_kind, any_logic}

@@ -1,9 +1,8 @@
 -- A file, line by line.
-use Rattle.std.proofs.Common.{◌≡◌, ℕ, ◌+◌, ◌<◌, ◌≤◌, ◌⊎◌, List, [], ◌∷◌, ◌++◌, length, drop, Some, Ok, Err, Option, Result, sym, refl, ap, ◌∙◌, subst, inl, inr, append-nil, arith, length-drop}
+use Rattle.std.proofs.Common.{◌≡◌, ℕ, ◌+◌, ◌<◌, ◌≤◌, List, [], ◌∷◌, ◌++◌, length, drop, Some, Option, sym, refl, ap, ◌∙◌, subst, inl, inr, append-nil, arith, length-drop}
 use Rattle.std.proofs.lemmas.List.{drop_all}
 use Rattle.base.specs.Checks.{FirstOf, NoneOf}
 use Rattle.base.specs.Words.{In}
-use Rattle.labels.specs.Order.{JoinPrime}
 use Rattle.engine.specs.Book.{Book, blank}
 use Rattle.engine.specs.Keeps.{Keeps}
 use Rattle.engine.specs.Obeys.{held, shown}
@@ -14,7 +13,7 @@ use Rattle.lines.specs.declared.fault.TextFault.{TextFault}
 use Rattle.lines.specs.declared.form.Form.{Form}
 use Rattle.lines.specs.declared.form.Line.{Line}
 use Rattle.lines.specs.declared.read.Found.{Found}
-use Rattle.lines.specs.Forms.{section, After, May}
+use Rattle.lines.specs.Forms.{section, May}
 use Rattle.lines.specs.Lines.{written, last_form}
 use Rattle.lines.specs.Reading.{Next, TextFails}
 use Rattle.report.specs.declared.any.AnyKind.{AnyKind}
@@ -24,10 +23,9 @@ use Rattle.report.specs.declared.fault.Cause.TheVariants.{Text}
 use Rattle.report.specs.declared.place.Place.{Place}
 use Rattle.report.specs.declared.users.Users.{Users}
 use Rattle.report.specs.Any.{any_kind, any_logic}
-use Rattle.report.specs.Meaning.{kind_of, book_of, users_of}
 use Rattle.report.specs.Checks.{user_count, line_checks, Good, Fails, text, check, Refuses}
 use Rattle.report.specs.Report.{PrintOf}
-use Rattle.report.specs.Stands.{Gets, Stops, Stands, Advanced, Late, Opened, taken, Keeping, LinePrinted, Along, Ends}
+use Rattle.report.specs.Stands.{Gets, Stops, Stands, Advanced, Late, Opened, taken, Keeping, LinePrinted, Along}
 use Rattle.report.proofs.Standing.{stands_more, prints_more, last_form_append}
 use Rattle.report.proofs.Stepping.{named_some}
 

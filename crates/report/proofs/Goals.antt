@@ -1,5 +1,5 @@
 -- The step of a goal's line.
-use Rattle.std.proofs.Common.{◌≡◌, ℕ, ◌-◌, ◌<◌, ◌≤◌, Bool, true, false, cond, eqb, ◌⊎◌, List, [], ◌∷◌, ◌++◌, length, take, replicate, Ok, Err, Option, Result, sym, refl, ap, ◌∙◌, subst, ap₂, inl, inr, arith, eqb-true}
+use Rattle.std.proofs.Common.{◌≡◌, ℕ, ◌-◌, ◌<◌, Bool, true, false, cond, eqb, List, [], ◌∷◌, ◌++◌, length, take, replicate, Ok, Err, Option, Result, sym, refl, ap, ◌∙◌, subst, ap₂, inl, inr, arith, eqb-true}
 use native.Mathlib.Nat.{sub-zero}
 use native.Mathlib.Decide.{dec_lt}
 use Rattle.std.proofs.lemmas.List.{take_at}
@@ -8,10 +8,10 @@ use Rattle.prints.specs.Print.{boundary_line, support_lines, block}
 use Rattle.prints.proofs.Adding.{adds_both}
 use Rattle.base.specs.Words.{In}
 use Rattle.base.specs.Checks.{FirstOf, NoneOf}
-use Rattle.labels.specs.Order.{LabelOrder, Lawful}
+use Rattle.labels.specs.Order.{Lawful}
 use Rattle.labels.proofs.Orders.{same_lawful}
 use Rattle.logics.specs.Entailment.{Entailment, Goal}
-use Rattle.engine.specs.Book.{Book, same, note, after}
+use Rattle.engine.specs.Book.{Book, note, after}
 use Rattle.engine.specs.Law.{checks, Buffers, SearchLeaves}
 use Rattle.engine.specs.Keeps.{Keeps}
 use Rattle.engine.specs.Obeys.{held, shown, Obeys}
@@ -21,7 +21,6 @@ use Rattle.engine.specs.declared.table.AxiomTable.{AxiomTable}
 use Rattle.engine.specs.declared.rows.RowTable.{RowTable}
 use Rattle.engine.specs.declared.call.SheetFault.{SheetFault}
 use Rattle.engine.specs.declared.call.Call.TheVariants.{Publish}
-use Rattle.engine.specs.declared.call.Answer.{Answer}
 use Rattle.engine.specs.declared.call.Answer.TheVariants.{Count, Refused}
 use Rattle.lines.specs.declared.form.Form.{Form}
 use Rattle.lines.specs.declared.form.Form.TheVariants.{Goal as GoalLine}
@@ -35,7 +34,7 @@ use Rattle.report.specs.declared.fault.Cause.TheVariants.{Sheet}
 use Rattle.report.specs.declared.users.Users.{Users}
 use Rattle.report.specs.Any.{any_kind, any_logic}
 use Rattle.report.specs.Meaning.{two, kind_of, logic_of, book_of, users_of}
-use Rattle.report.specs.Checks.{checks_by, line_checks}
+use Rattle.report.specs.Checks.{line_checks}
 use Rattle.report.specs.Report.{GoalPrints, LinePrints}
 use Rattle.report.specs.Stands.{Keeping, Shows, Sighted, Steps, LinePrinted}
 use Rattle.report.specs.AnyLawful.{any_lawful}

@@ -1,7 +1,7 @@
 -- Any bytes have one report.
-use Rattle.std.proofs.Common.{◌≡◌, ℕ, ◌+◌, ◌-◌, ◌<◌, ◌≤◌, Bool, true, false, T, ◌⊎◌, List, [], ◌∷◌, ◌++◌, length, replicate, Ok, Err, Option, Result, sym, refl, ap, ◌∙◌, subst, ap₂, inl, inr, append_assoc, append-nil, arith}
+use Rattle.std.proofs.Common.{◌≡◌, ℕ, ◌+◌, ◌-◌, ◌<◌, ◌≤◌, Bool, true, false, T, ◌⊎◌, List, [], ◌∷◌, ◌++◌, length, replicate, Ok, Err, Option, sym, refl, ap, ◌∙◌, subst, ap₂, inl, inr, append_assoc, append-nil, arith}
 use Rattle.base.specs.Words.{Iff}
-use Rattle.base.specs.Checks.{FirstOf, NoneOf}
+use Rattle.base.specs.Checks.{FirstOf}
 use Rattle.base.proofs.Checks.{first_unique, none_first}
 use Rattle.labels.specs.Order.{LabelOrder}
 use Rattle.logics.specs.Entailment.{Entailment, Goal}
@@ -20,7 +20,7 @@ use Rattle.report.specs.declared.fault.Cause.TheVariants.{Text}
 use Rattle.report.specs.declared.fault.ReportFault.{ReportFault}
 use Rattle.report.specs.Meaning.{two, kind_of, logic_of, book_of, users_of}
 use Rattle.report.specs.Checks.{user_count, line_checks, Passes, Good, Fails, early, check, text as texts, Refuses, Accepts}
-use Rattle.report.specs.Report.{Seen, GoalPrints, LinePrints, Prints, PrintOf, Refused, Reported}
+use Rattle.report.specs.Report.{Seen, GoalPrints, LinePrints, Prints, PrintOf, Refused}
 use Rattle.report.specs.OneOutcome.{OneOutcome}
 use Rattle.report.proofs.Standing.{some_text}
 

@@ -1,9 +1,7 @@
 -- The lines up to the logic.
-use Rattle.std.proofs.Common.{◌≡◌, ℕ, ◌+◌, ◌<◌, ◌≤◌, cond, eqb, ◌⊎◌, List, [], ◌∷◌, ◌++◌, length, drop, sym, refl, ap, ◌∙◌, subst, inl, inr, append-nil, arith}
+use Rattle.std.proofs.Common.{◌≡◌, ℕ, ◌+◌, cond, eqb, List, [], ◌∷◌, ◌++◌, drop, sym, refl, ap, ◌∙◌, subst, inl, inr, arith}
 use Rattle.std.proofs.lemmas.List.{drop_all}
-use Rattle.base.specs.Checks.{NoneOf}
 use Rattle.labels.specs.Order.{LabelOrder, Same}
-use Rattle.engine.specs.Book.{Book, blank}
 use Rattle.engine.specs.declared.call.Call.{Call}
 use Rattle.lines.specs.declared.form.Form.{Form}
 use Rattle.lines.specs.declared.form.Form.TheVariants.{Logic as LogicLine}
@@ -16,14 +14,13 @@ use Rattle.report.specs.declared.any.AnyKind.{AnyKind}
 use Rattle.report.specs.declared.any.AnyLogic.{AnyLogic}
 use Rattle.report.specs.declared.any.AnyLogic.TheVariants.{El, Links}
 use Rattle.report.specs.declared.fault.Cause.{Cause}
-use Rattle.report.specs.declared.fault.Cause.TheVariants.{Text}
 use Rattle.report.specs.declared.place.Place.{Place}
 use Rattle.report.specs.Any.{any_kind}
-use Rattle.report.specs.Meaning.{kind_of, calls_by, booked, book_of, users_of}
-use Rattle.report.specs.Checks.{line_checks, Refuses, early}
+use Rattle.report.specs.Meaning.{calls_by, booked, book_of}
+use Rattle.report.specs.Checks.{Refuses, early}
 use Rattle.report.specs.Report.{LinePrints, Prints}
-use Rattle.report.specs.Stands.{Gets, Stops, Stands, Advanced, Opened, Quiet, KindRead, Named, LogicChosen}
-use Rattle.report.proofs.Standing.{lines_of_append, last_form_append, kind_of_same, users_of_same, book_of_more, prints_more, stands_more}
+use Rattle.report.specs.Stands.{Gets, Stops, Stands, Opened, Quiet, KindRead, Named, LogicChosen}
+use Rattle.report.proofs.Standing.{lines_of_append, last_form_append, kind_of_same, users_of_same, book_of_more, prints_more}
 use Rattle.report.proofs.Files.{refused_here, refused_text}
 
 -- a line that makes no call and prints nothing

@@ -1,11 +1,10 @@
 -- What is said of an order holds of another with the same labels, each at or below the same others.
-use Rattle.std.proofs.Common.{◌≡◌, ℕ, ◌<◌, ◌⊎◌, Some, None, Option, sym, subst, inl, inr}
-use Rattle.base.specs.Words.{Iff}
+use Rattle.std.proofs.Common.{ℕ, ◌<◌, Some, None, Option, sym, subst, inl, inr}
 use Rattle.labels.specs.Order.{LabelOrder, Label, Under, JoinPrime, Same}
 use Rattle.labels.proofs.Orders.{same_sym, same_least}
 use Rattle.logics.specs.Entailment.{Entailment, Goal}
 use Rattle.engine.specs.Book.{Book}
-use Rattle.engine.specs.Sight.{MeetOf, LeastAbove, IsBoundary, Visible, Sees}
+use Rattle.engine.specs.Sight.{MeetOf, IsBoundary, Visible, Sees}
 
 module _ (k l : LabelOrder) (s : Same k l) where
   pub label_same : (a : ℕ) → Label k a → Label l a

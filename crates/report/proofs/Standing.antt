@@ -1,18 +1,14 @@
 -- One line more behind good lines.
-use Rattle.std.proofs.Common.{◌≡◌, ℕ, ◌+◌, ◌<◌, ◌≤◌, Bool, true, false, cond, eqb, List, [], ◌∷◌, ◌++◌, map, length, drop, Some, Option, sym, refl, ap, ◌∙◌, subst, ap₂, append_assoc, append-nil, arith, length-append, ne_eqb}
-use mathlib.Core.List.{map-append}
+use Rattle.std.proofs.Common.{◌≡◌, ℕ, ◌+◌, ◌<◌, Bool, true, false, cond, eqb, List, [], ◌∷◌, ◌++◌, map, length, drop, Some, Option, sym, refl, ap, ◌∙◌, subst, append_assoc, append-nil, arith, length-append, ne_eqb}
 use Rattle.base.specs.Checks.{NoneOf}
-use Rattle.labels.specs.Order.{LabelOrder}
-use Rattle.logics.specs.Entailment.{Entailment}
 use Rattle.engine.specs.Book.{Book, blank}
 use Rattle.lines.specs.declared.form.Form.{Form}
 use Rattle.lines.specs.declared.form.Line.{Line}
 use Rattle.lines.specs.declared.read.Found.{Found}
 use Rattle.lines.specs.Forms.{May, section}
 use Rattle.lines.specs.Lines.{body, text, written, lines_of, last_form}
-use Rattle.lines.specs.Reading.{Next}
 use Rattle.report.specs.declared.place.Place.{Place}
-use Rattle.report.specs.Meaning.{at, two, pairs, kind_by, kind_of, first_logic, logic_of, calls, booked, booked_by, book_of, users_of}
+use Rattle.report.specs.Meaning.{at, two, kind_by, kind_of, first_logic, logic_of, calls, booked, booked_by, book_of, users_of}
 use Rattle.report.specs.Checks.{user_count, line_checks, Passes, Good}
 use Rattle.report.specs.Report.{LinePrints, Prints}
 use Rattle.report.specs.Stands.{Gets, Stands, Advanced}

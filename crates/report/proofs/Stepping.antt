@@ -1,19 +1,19 @@
 -- What a call of the sheet shows of the line that it is made for.
-use Rattle.std.proofs.Common.{◌≡◌, ℕ, ◌+◌, ◌<◌, ◌≤◌, ◌⊎◌, List, [], ◌∷◌, ◌++◌, map, length, Ok, Err, Result, sym, refl, ap, ◌∙◌, subst, ap₂, inl, inr, arith, length-take-le}
+use Rattle.std.proofs.Common.{◌≡◌, ℕ, ◌<◌, ◌≤◌, List, [], ◌∷◌, ◌++◌, length, Ok, Err, Result, sym, ap, ◌∙◌, subst, ap₂, inl, inr, arith, length-take-le}
 use Rattle.std.proofs.lemmas.List.{length-map}
 use Rattle.base.specs.Words.{In}
 use Rattle.base.specs.Checks.{FirstOf, NoneOf}
 use Rattle.base.proofs.Checks.{none_first}
-use Rattle.labels.specs.Order.{LabelOrder, Label, JoinPrime, Same}
+use Rattle.labels.specs.Order.{LabelOrder, JoinPrime, Same}
 use Rattle.labels.proofs.Orders.{same_sym}
-use Rattle.logics.specs.Entailment.{Entailment, Goal}
+use Rattle.logics.specs.Entailment.{Entailment}
 use Rattle.logics.specs.El.{el, ElRecord, ElLimits}
-use Rattle.logics.specs.Links.{links, LinkRecord, PointLimits}
+use Rattle.logics.specs.Links.{links}
 use Rattle.logics.specs.declared.Record.{Record}
 use Rattle.engine.specs.Book.{Book, after}
 use Rattle.engine.specs.Law.{checks, Lawfully, Answered, Next}
 use Rattle.engine.specs.Keeps.{Keeps}
-use Rattle.engine.specs.Obeys.{held, shown, Obeys}
+use Rattle.engine.specs.Obeys.{held, shown}
 use Rattle.engine.specs.declared.table.AxiomTable.{AxiomTable}
 use Rattle.engine.specs.declared.rows.RowTable.{RowTable}
 use Rattle.engine.specs.declared.call.SheetFault.{SheetFault}
@@ -22,8 +22,6 @@ use Rattle.engine.specs.declared.call.Call.TheVariants.{Enter}
 use Rattle.engine.specs.declared.call.Answer.{Answer}
 use Rattle.engine.specs.declared.call.Answer.TheVariants.{Refused}
 use Rattle.lines.specs.declared.form.Form.{Form}
-use Rattle.lines.specs.declared.form.Form.TheVariants.{Logic as LogicLine}
-use Rattle.lines.specs.declared.form.LogicForm.TheVariants.{El as ElLine, Links as LinksLine}
 use Rattle.lines.specs.declared.form.Line.{Line}
 use Rattle.lines.specs.Forms.{section}
 use Rattle.lines.specs.Lines.{lines_of}

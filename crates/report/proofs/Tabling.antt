@@ -1,5 +1,5 @@
 -- A table, pair by pair.
-use Rattle.std.proofs.Common.{◌≡◌, ℕ, ◌+◌, ◌<◌, ◌≤◌, cond, eqb, ◌⊎◌, List, [], ◌∷◌, ◌++◌, map, length, get_or, take, drop, Some, decimal, Option, sym, refl, ap, ◌∙◌, subst, ap₂, inl, inr, append_assoc, arith}
+use Rattle.std.proofs.Common.{◌≡◌, ℕ, ◌+◌, ◌<◌, cond, eqb, List, [], ◌∷◌, ◌++◌, map, length, get_or, take, drop, decimal, Option, sym, refl, ap, ◌∙◌, subst, ap₂, inl, inr, append_assoc, arith}
 use mathlib.Core.List.{map-append}
 use Rattle.base.specs.Commas.{tails}
 use Rattle.base.specs.Checks.{FirstOf, NoneOf}
@@ -14,15 +14,14 @@ use Rattle.lines.specs.declared.form.KindForm.{KindForm}
 use Rattle.lines.specs.declared.form.KindForm.TheVariants.{Table as TableForm}
 use Rattle.lines.specs.declared.form.Line.{Line}
 use Rattle.lines.specs.declared.read.Found.{Found}
-use Rattle.lines.specs.Forms.{opening, arity, section, OfTable, After, May}
-use Rattle.lines.specs.Lines.{numbers_of, body, text, Whole, lines_of, last_form}
-use Rattle.lines.specs.Reading.{Next}
+use Rattle.lines.specs.Forms.{opening, arity, section, OfTable, May}
+use Rattle.lines.specs.Lines.{numbers_of, body, text, Whole, lines_of}
 use Rattle.lines.proofs.Openings.{pair_opening}
 use Rattle.report.specs.declared.any.AnyKind.{AnyKind}
 use Rattle.report.specs.declared.fault.Cause.TheVariants.{Kind}
 use Rattle.report.specs.declared.place.Place.{Place}
 use Rattle.report.specs.Any.{any_kind}
-use Rattle.report.specs.Meaning.{at, two, pairs, kind_by, kind_of, book_of, users_of}
+use Rattle.report.specs.Meaning.{at, two, pairs, kind_by, kind_of, book_of}
 use Rattle.report.specs.Checks.{PairNext, table_size, checks_by, line_checks, Refuses}
 use Rattle.report.specs.Report.{Prints}
 use Rattle.report.specs.Stands.{Gets, Stands, Advanced, LogicNext, Quiet, KindRead, TableRead}

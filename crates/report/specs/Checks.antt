@@ -1,6 +1,5 @@
 -- The checks of a line, in their order, by the lines before it and the bytes behind it.
-use Rattle.std.specs.Prelude.{◌≡◌, ℕ, ◌+◌, ◌<◌, ◌⊎◌, List, [], ◌∷◌, ◌++◌, map, length, get_or}
-use Rattle.base.specs.Words.{In}
+use Rattle.std.specs.Prelude.{◌≡◌, ℕ, ◌+◌, ◌<◌, ◌⊎◌, List, [], ◌∷◌, ◌++◌, map, length}
 use Rattle.base.specs.Checks.{FirstOf, NoneOf}
 use Rattle.labels.specs.Order.{Label, JoinPrime}
 use Rattle.labels.specs.Chain.{ChainSize}

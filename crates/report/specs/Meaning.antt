@@ -5,7 +5,7 @@ use Rattle.labels.specs.Chain.{chain}
 use Rattle.labels.specs.Sets.{sets}
 use Rattle.labels.specs.House.{house}
 use Rattle.tables.specs.Table.{table}
-use Rattle.logics.specs.Entailment.{Entailment, Goal}
+use Rattle.logics.specs.Entailment.{Entailment}
 use Rattle.logics.specs.El.{el}
 use Rattle.logics.specs.Links.{links}
 use Rattle.logics.specs.declared.Record.{Record}

@@ -1,5 +1,5 @@
 -- What a report prints, and what it leaves.
-use Rattle.std.specs.Prelude.{◌≡◌, ℕ, ◌-◌, ◌<◌, ◌≤◌, Bool, T, ◌⊎◌, List, [], ◌∷◌, ◌++◌, map, length, replicate, Ok, Err, Option, Result}
+use Rattle.std.specs.Prelude.{◌≡◌, ℕ, ◌-◌, ◌<◌, ◌≤◌, Bool, T, ◌⊎◌, List, [], ◌∷◌, ◌++◌, length, replicate, Ok, Err, Option, Result}
 use Rattle.base.specs.Words.{Iff}
 use Rattle.labels.specs.Order.{LabelOrder, Lawful}
 use Rattle.logics.specs.Entailment.{Entailment, Goal}

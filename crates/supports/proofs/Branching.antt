@@ -1,13 +1,13 @@
 -- The branches at a support, one after the other.
-use Rattle.std.proofs.Common.{◌≡◌, ℕ, ◌+◌, ◌-◌, ◌^◌, ◌<◌, ◌≤◌, ◌⊎◌, List, sym, refl, subst, inl, inr, ⊎_elim, arith}
+use Rattle.std.proofs.Common.{◌≡◌, ℕ, ◌+◌, ◌-◌, ◌^◌, ◌<◌, ◌⊎◌, List, sym, subst, inl, inr, ⊎_elim, arith}
 use native.Mathlib.Decide.{ℕ_discrete}
 use lib.Bits.{bit_and, bit_or}
-use Rattle.base.specs.Bits.{Has, Subset}
-use Rattle.base.specs.Words.{Iff, In}
-use Rattle.base.proofs.Sets.{has_or_not, has_minus, has_with, subset_lt}
+use Rattle.base.specs.Bits.{Has}
+use Rattle.base.specs.Words.{Iff}
+use Rattle.base.proofs.Sets.{has_minus, has_with, subset_lt}
 use Rattle.logics.specs.Entailment.{Entailment, Goal}
 use Rattle.logics.specs.declared.Record.{Record}
-use Rattle.supports.specs.Search.{Apart, HitsAll, Branch, Blocks, Done, Branches, Grown}
+use Rattle.supports.specs.Search.{Branch, Done, Branches, Grown}
 use Rattle.supports.proofs.Hitting.{branches_grow, branch_done}
 
 -- the axioms of `may` that a branch by x may take

@@ -1,5 +1,5 @@
 -- Once the whole region is done, every support is known.
-use Rattle.std.proofs.Common.{◌≡◌, ℕ, ◌-◌, ◌^◌, ◌<◌, ◌≤◌, ◌⊎◌, List, [], ◌∷◌, sym, refl, subst, inl, inr, ⊎_elim, arith}
+use Rattle.std.proofs.Common.{◌≡◌, ℕ, ◌-◌, ◌^◌, ◌<◌, ◌⊎◌, List, [], ◌∷◌, sym, subst, inl, inr, ⊎_elim, arith}
 use native.Mathlib.Decide.{ℕ_discrete}
 use lib.Bits.{bit_and}
 use Rattle.base.specs.Bits.{Has, Subset}
@@ -8,7 +8,7 @@ use Rattle.base.proofs.Sets.{has_or_not, has_zero, has_minus, same_set, some_pla
 use Rattle.logics.specs.Entailment.{Entailment, Goal, Monotone}
 use Rattle.logics.specs.declared.Record.{Record}
 use Rattle.supports.specs.Supports.{Yields, Support, SomeSupports, AllSupports}
-use Rattle.supports.specs.Search.{Apart, Hits, HitsAll, Region, Done, Earlier}
+use Rattle.supports.specs.Search.{HitsAll, Done, Earlier}
 use Rattle.supports.proofs.Yielding.{yields_more}
 
 in_or_not : (s : ℕ) (known : List ℕ) → In s known ⊎ (In s known → ⊥)

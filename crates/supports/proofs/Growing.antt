@@ -1,5 +1,5 @@
 -- The known supports grow by one.
-use Rattle.std.proofs.Common.{◌≡◌, ℕ, ◌+◌, ◌<◌, ◌⊎◌, List, length, sym, refl, subst, inl, inr, ⊎_elim, arith}
+use Rattle.std.proofs.Common.{ℕ, ◌<◌, List, length, sym, refl, subst, inl, inr, ⊎_elim}
 use Rattle.base.specs.Bits.{Has}
 use Rattle.base.specs.Words.{In}
 use Rattle.logics.specs.Entailment.{Entailment, Goal}

@@ -1,13 +1,13 @@
 -- Why one walk over the hitting sets finds every support.
-use Rattle.std.proofs.Common.{◌≡◌, ℕ, zero, suc, ◌+◌, ◌-◌, ◌^◌, ◌<◌, ◌≤◌, ◌⊎◌, List, [], ◌∷◌, sym, refl, ◌∙◌, subst, inl, inr, ⊎_elim, arith}
-use native.Mathlib.Decide.{ℕ_discrete, dec_lt}
+use Rattle.std.proofs.Common.{◌≡◌, ℕ, zero, suc, ◌-◌, ◌^◌, ◌<◌, ◌≤◌, ◌⊎◌, List, sym, refl, ◌∙◌, subst, inl, inr, ⊎_elim, arith}
+use native.Mathlib.Decide.{ℕ_discrete}
 use lib.Bits.{bit_and}
 use Rattle.base.specs.Bits.{Has, Subset}
 use Rattle.base.specs.Words.{Iff, In}
-use Rattle.base.proofs.Sets.{has_or_not, has_and, has_without, has_below, some_place}
+use Rattle.base.proofs.Sets.{has_or_not, has_and, has_without, has_below}
 use Rattle.logics.specs.Entailment.{Entailment, Goal}
 use Rattle.logics.specs.declared.Record.{Record}
-use Rattle.supports.specs.Search.{Apart, Hits, HitsAll, Region, Without, Branch, Blocks, Done, Earlier, Branches}
+use Rattle.supports.specs.Search.{Apart, HitsAll, Without, Branch, Blocks, Done, Earlier, Branches}
 
 -- the last place of a set below n
 last_place : (s n : ℕ) → (k : ℕ) × Has s k × (k < n) → (x : ℕ) × Has s x × (x < n) × ((i : ℕ) → Has s i → i < n → i ≤ x)

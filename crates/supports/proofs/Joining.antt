@@ -1,6 +1,6 @@
 -- A set among the known ones: it is there, or it goes into its gap.
-use Rattle.std.proofs.Common.{◌≡◌, ℕ, ◌+◌, ◌<◌, ◌≤◌, ◌⊎◌, List, ◌∷◌, ◌++◌, length, get_or, take, drop, sym, subst, inl, inr, ⊎_elim, arith, length-append, length-drop, take-append-drop, length-take}
-use Rattle.base.specs.Words.{Iff, In}
+use Rattle.std.proofs.Common.{◌≡◌, ℕ, ◌+◌, ◌<◌, ◌≤◌, List, ◌∷◌, ◌++◌, length, get_or, take, drop, sym, subst, inr, ⊎_elim, arith, length-append, length-drop, take-append-drop, length-take}
+use Rattle.base.specs.Words.{In}
 use Rattle.ordered.specs.Lists.{Ascending, Level, Gap, opened}
 use Rattle.ordered.specs.Sets.{Before}
 use Rattle.ordered.proofs.Lists.{in_insert, get_or_in}

@@ -1,9 +1,8 @@
 -- A set that yields the goal, made smaller axiom by axiom.
-use Rattle.std.proofs.Common.{◌≡◌, ℕ, ◌+◌, ◌-◌, ◌^◌, ◌<◌, ◌≤◌, ◌⊎◌, List, sym, refl, subst, inl, inr, arith}
+use Rattle.std.proofs.Common.{ℕ, ◌+◌, ◌-◌, ◌^◌, ◌<◌, List, sym, subst, inl, inr, arith}
 use native.Mathlib.Decide.{ℕ_discrete}
 use Rattle.base.specs.Bits.{Has, Subset}
-use Rattle.base.specs.Words.{Iff}
-use Rattle.base.proofs.Sets.{has_or_not, has_without, has_below, subset_le}
+use Rattle.base.proofs.Sets.{has_or_not, has_without, has_below}
 use Rattle.logics.specs.Entailment.{Entailment, Goal, Monotone}
 use Rattle.logics.specs.declared.Record.{Record}
 use Rattle.supports.specs.Supports.{Yields, Support}

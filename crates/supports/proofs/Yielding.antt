@@ -1,5 +1,5 @@
 -- A larger set of axioms yields no less.
-use Rattle.std.proofs.Common.{◌≡◌, ℕ, zero, suc, ◌/◌, ◌%◌, ◌⊎◌, List, [], ◌∷◌, sym, refl, subst, inl, inr, ⊎_elim, arith}
+use Rattle.std.proofs.Common.{ℕ, suc, ◌/◌, List, [], ◌∷◌, inl, inr, ⊎_elim, arith}
 use Rattle.base.specs.Bits.{Has, Subset}
 use Rattle.base.specs.Words.{Iff, In}
 use Rattle.base.proofs.Sets.{has_first, has_next, subset_le}
@@ -7,7 +7,7 @@ use Rattle.logics.specs.Entailment.{Entailment, Goal, Monotone, Askable, marked}
 use Rattle.logics.specs.declared.Record.{Record}
 use Rattle.logics.specs.Marked.{in_cons}
 use Rattle.supports.specs.Supports.{Yields}
-use Rattle.supports.specs.Search.{Apart, Blocks}
+use Rattle.supports.specs.Search.{Blocks}
 
 half_subset : (s t : ℕ) → Subset s t → Subset (s / 2) (t / 2)
 half_subset s t sub i h = rw has_next at (sub (suc i) (rw has_next h))

@@ -1,11 +1,10 @@
 -- Joins and meets, by rows of bits.
-use Rattle.std.proofs.Common.{◌≡◌, ℕ, ◌<◌, List, get_or, sym, refl, subst}
+use Rattle.std.proofs.Common.{◌≡◌, ℕ, ◌<◌, List, get_or}
 use lib.Bits.{bit_and}
 use Rattle.base.specs.Bits.{Has}
-use Rattle.base.specs.Words.{Iff}
 use Rattle.base.proofs.Sets.{has_and, same_set}
-use Rattle.labels.specs.Order.{Under, Least, Greatest}
-use Rattle.tables.specs.Rows.{Marked, matrix, Inside, PartialOrder, Flipped}
+use Rattle.labels.specs.Order.{Least}
+use Rattle.tables.specs.Rows.{Marked, matrix, Inside, PartialOrder}
 use Rattle.tables.specs.Matrix.{under}
 
 -- j is the join of a and b when the labels at or above j are those at or above both

@@ -1,5 +1,5 @@
 -- The labels that split every join, gathered as a set of bits.
-use Rattle.std.proofs.Common.{◌≡◌, ℕ, ◌+◌, ◌-◌, ◌^◌, ◌<◌, ◌⊎◌, sym, subst, inl, inr, ⊎_elim, arith, below_more}
+use Rattle.std.proofs.Common.{ℕ, ◌+◌, ◌-◌, ◌^◌, ◌<◌, inl, inr, ⊎_elim, arith, below_more}
 use lib.Bits.{bit_and, bit_or}
 use Rattle.base.specs.Bits.{Has}
 use Rattle.base.specs.Words.{Iff}

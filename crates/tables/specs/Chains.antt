@@ -1,7 +1,7 @@
 -- Chains of pairs: reachability, and what one more pair adds to it.
-use Rattle.std.specs.Prelude.{◌≡◌, ℕ, ◌⊎◌, List, [], ◌∷◌, ◌++◌, refl}
-use Rattle.std.proofs.Common.{ap, subst, sym, inl, inr, ⊎_elim}
-use Rattle.base.specs.Words.{In, Iff}
+use Rattle.std.specs.Prelude.{◌≡◌, ℕ, ◌⊎◌, List, [], ◌∷◌, refl}
+use Rattle.std.proofs.Common.{ap, subst, inl, inr, ⊎_elim}
+use Rattle.base.specs.Words.{In}
 use Rattle.tables.specs.Table.{Reach, here, step, more}
 
 in_more : (ps : List (ℕ × ℕ)) (p q : ℕ × ℕ) → In q ps → In q (more ps p)

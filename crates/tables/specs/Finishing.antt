@@ -4,12 +4,12 @@ use Rattle.std.proofs.Common.{inl, inr, arith}
 use Rattle.std.proofs.Math.Decide.{ℕ_discrete}
 use Rattle.base.specs.Bits.{Has}
 use Rattle.base.specs.Words.{Iff}
-use Rattle.labels.specs.Order.{LabelOrder, Label, Under, Least, Greatest, Top, Same}
+use Rattle.labels.specs.Order.{LabelOrder, Label, Under, Least, Greatest, Same}
 use Rattle.labels.proofs.Orders.{same_sym, same_least, same_greatest}
 use Rattle.tables.specs.Table.{table, Lacking}
-use Rattle.tables.specs.Rows.{Marked, matrix, Inside, PartialOrder, Flipped, Keeps, JoinTable, MeetTable, PrimeSet, SplitBits, Finished, Within, entry}
+use Rattle.tables.specs.Rows.{matrix, Inside, PartialOrder, Flipped, Keeps, JoinTable, MeetTable, PrimeSet, SplitBits, Finished, Within, entry}
 use Rattle.tables.specs.Matrix.{under}
-use Rattle.tables.specs.Flips.{down_inside, down_ordered, least_greatest, greatest_least, row_top, top_row}
+use Rattle.tables.specs.Flips.{least_greatest, row_top, top_row}
 
 -- the order that rows hold is that of the pairs that they keep
 pub keeps_same : (n : ℕ) (rows : List ℕ) (pairs : List (ℕ × ℕ)) → Inside n rows → Keeps n rows pairs → Same (matrix n rows) (table n pairs)

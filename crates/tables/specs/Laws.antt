@@ -1,10 +1,10 @@
 -- A finished table keeps the laws of a label kind, and admits the join primes.
-use Rattle.std.specs.Prelude.{◌≡◌, ℕ, ◌⊎◌, List, slice_index}
+use Rattle.std.specs.Prelude.{ℕ, List, slice_index}
 use Rattle.std.proofs.Common.{inl, inr, ⊎_elim, arith}
 use Rattle.base.specs.Bits.{Has}
 use Rattle.base.specs.Words.{Iff}
 use Rattle.base.proofs.Sets.{has_or_not}
-use Rattle.labels.specs.Order.{Lawful, JoinPrime, Under, Least, Same, Means}
+use Rattle.labels.specs.Order.{Lawful, JoinPrime, Same, Means}
 use Rattle.labels.proofs.Orders.{same_greatest, same_least, same_lawful}
 use Rattle.tables.specs.Table.{TableSize, table, Lacking}
 use Rattle.tables.specs.Rows.{matrix, Inside, Keeps, Finished, entry}

@@ -1,11 +1,11 @@
 -- Rows of bits: what a write to a row changes, and the orders that rows hold.
-use Rattle.std.specs.Prelude.{◌≡◌, ℕ, zero, suc, ◌+◌, ◌*◌, ◌%◌, ◌^◌, ◌<◌, ◌≤◌, ◌⊎◌, List, [], ◌∷◌, length, replicate, ◌≢◌, slice_index, slice_set, refl}
+use Rattle.std.specs.Prelude.{◌≡◌, ℕ, zero, suc, ◌<◌, List, [], length, replicate, ◌≢◌, slice_index, slice_set, refl}
 use Rattle.std.proofs.Common.{sym, ap, subst, ◌∙◌, inl, inr, arith, get_or-set_same, get_or-set_other}
 use Rattle.std.proofs.Math.Decide.{ℕ_discrete}
 use Rattle.base.specs.Bits.{Has}
 use Rattle.base.specs.Words.{Iff}
-use Rattle.base.proofs.Sets.{has_zero, has_single}
-use Rattle.labels.specs.Order.{Under, Label}
+use Rattle.base.proofs.Sets.{has_zero}
+use Rattle.labels.specs.Order.{Under}
 use Rattle.tables.specs.Rows.{Marked, matrix, Inside, PartialOrder, Keeps, Linked}
 use Rattle.tables.specs.Table.{Reach, here, step, table, more, Looped}
 use Rattle.tables.specs.Chains.{reach_none, reach_more, by_last, last_by, in_last}

@@ -1,6 +1,5 @@
-use Rattle.std.proofs.Common.{◌≡◌, [], length, sym, refl, ◌∙◌, subst, arith}
+use Rattle.std.proofs.Common.{◌≡◌, [], length, refl}
 use native.Mathlib.Nat.{sub-zero}
-use Rattle.logics.specs.Entailment.{Askable}
 use Rattle.supports.proofs.Finding.{none_found}
 use Rattle.supports.proofs.Zeroing.{scrubbed_clean}
 use Rattle.supports.proofs.find_supports.Goals as goal

@@ -1,7 +1,7 @@
 use Rattle.std.proofs.Common.{length, sym, refl, subst}
 use Rattle.engine.specs.declared.call.Call.{Call}
-use Rattle.engine.specs.declared.call.Call.TheVariants.{Enter, Withdraw, Relabel, Supports, Publish, Boundary, Row, See}
-use Rattle.engine.specs.Law.{given, Buffers}
+use Rattle.engine.specs.declared.call.Call.TheVariants.{Enter, Withdraw, Relabel, Boundary, Row, See}
+use Rattle.engine.specs.Law.{given}
 use Rattle.engine.specs.Makes.{Makes}
 use Rattle.engine.proofs.Histories.{makes_plain}
 use Rattle.engine.proofs.history.make.Goals as goal

@@ -1,11 +1,10 @@
-use Rattle.std.proofs.Common.{◌≡◌, ℕ, ◌+◌, ◌<◌, min, List, map, length, take, drop, set, sym, refl, ap, ◌∙◌, subst, arith, length-set, drop-set-lt}
+use Rattle.std.proofs.Common.{◌≡◌, ℕ, ◌+◌, ◌<◌, min, List, map, length, take, sym, refl, ap, ◌∙◌, subst, arith, length-set, drop-set-lt}
 use Rattle.engine.specs.declared.call.Call.{Call}
 use Rattle.engine.specs.declared.call.Answer.{Answer}
-use Rattle.engine.specs.Book.{Book, blank}
+use Rattle.engine.specs.Book.{blank}
 use Rattle.engine.specs.Law.{Buffers, Run, given}
 use Rattle.engine.specs.Keeps.{Keeps}
 use Rattle.engine.specs.Obeys.{held, shown}
-use Rattle.engine.specs.Makes.{Makes}
 use Rattle.engine.proofs.Histories.{run_of, run_step, makes_same, take_fewer, drop_later}
 use Rattle.engine.proofs.Unique.{determined}
 use Rattle.engine.proofs.history.run.Goals as goal

@@ -1,10 +1,9 @@
-use Rattle.std.proofs.Common.{◌≡◌, ℕ, ◌+◌, ◌*◌, ◌^◌, ◌<◌, length, get_or, take, sym, ap, ◌∙◌, subst, arith, take_all, true-eqb, false-eqb}
+use Rattle.std.proofs.Common.{◌≡◌, ◌+◌, ◌<◌, length, get_or, take, sym, ap, ◌∙◌, subst, arith, take_all, true-eqb, false-eqb}
 use Rattle.std.specs.Str.Parse.{AllDigits, digits_value}
 use Rattle.std.specs.Char.{digit_value as digit_value_of}
-use Rattle.std.specs.Int.{IsInRange}
 use Rattle.std.proofs.lemmas.Int.Digits.{digits_value_more, digits_more}
 use Rattle.std.proofs.lemmas.Str.Parse.{digit_at}
-use Rattle.lines.proofs.Numbers.{Plain, plain_decimal, decimal_plain, front_value, digit_value}
+use Rattle.lines.proofs.Numbers.{plain_decimal, decimal_plain, front_value, digit_value}
 use Rattle.lines.proofs.number.read_number.Goals as goal
 use Rattle.lines.proofs.number.read_number.Goals.{else-field-gt1-via-then-field-gt1+else-field-eq48, else-field-gt1-via-else-field-gt1}
 

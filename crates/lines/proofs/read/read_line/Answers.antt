@@ -1,4 +1,4 @@
-use Rattle.std.proofs.Common.{ℕ, List, arith}
+use Rattle.std.proofs.Common.{arith}
 use Rattle.lines.specs.Reading.{endless, shapeless, misplaced, unreadable}
 use Rattle.lines.proofs.Ends.{no_end, end_found, behind_opening, line_next}
 use Rattle.lines.proofs.read.read_line.Goals as goal

@@ -1,6 +1,6 @@
-use Rattle.std.proofs.Common.{◌≡◌, ℕ, ◌+◌, ◌-◌, ◌<◌, ◌≤◌, List, ◌∷◌, length, take, drop, sym, ap, ◌∙◌, subst, inl, inr, arith, length-drop}
+use Rattle.std.proofs.Common.{drop, sym, ◌∙◌, subst, inl, inr, arith, length-drop}
 use Rattle.lines.specs.Reading.{Parted}
-use Rattle.lines.proofs.NumbersRead.{SoFar, field_left, so_far_more, so_far_all, in_todo}
+use Rattle.lines.proofs.NumbersRead.{field_left, so_far_more, so_far_all, in_todo}
 use Rattle.lines.proofs.read.read_numbers.Goals as goal
 
 pub returns-then-at-fields : goal.returns-then-at-fields

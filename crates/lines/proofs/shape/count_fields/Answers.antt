@@ -1,4 +1,4 @@
-use Rattle.std.proofs.Common.{◌≡◌, ◌<◌, length, get_or, take, count_by, sym, ap, ◌∙◌, arith, take_all, eq-eqb, ne_eqb, true-eqb, false-eqb}
+use Rattle.std.proofs.Common.{◌≡◌, ◌<◌, length, get_or, count_by, sym, ap, ◌∙◌, arith, take_all, eq-eqb, ne_eqb, true-eqb, false-eqb}
 use Rattle.std.proofs.lemmas.List.Sums.{count_by_more_yes, count_by_more_no}
 use Rattle.lines.proofs.Fields.{comma, parted_of, begins_parted}
 use Rattle.lines.proofs.shape.count_fields.Goals as goal

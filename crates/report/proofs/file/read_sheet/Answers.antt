@@ -1,7 +1,6 @@
-use Rattle.std.proofs.Common.{◌≡◌, List, [], ◌∷◌, ◌++◌, length, sym, subst, arith}
+use Rattle.std.proofs.Common.{[], ◌∷◌, ◌++◌, arith}
 use Rattle.std.proofs.lemmas.Result.{err_from_is_err_and}
 use Rattle.base.specs.Checks.{FirstOf, NoneOf}
-use Rattle.lines.specs.declared.form.Line.{Line}
 use Rattle.report.specs.Checks.{line_checks}
 use Rattle.report.specs.Stands.{Keeping, LinePrinted}
 use Rattle.report.proofs.Files.{refused_check, along_stops, step_here, along_more, along_ends, opened_same}

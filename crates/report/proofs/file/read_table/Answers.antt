@@ -1,14 +1,10 @@
-use Rattle.std.proofs.Common.{◌≡◌, ℕ, ◌+◌, ◌-◌, List, [], ◌∷◌, ◌++◌, length, take, drop, sym, refl, ap, ◌∙◌, subst, inl, inr, arith}
+use Rattle.std.proofs.Common.{ℕ, ◌+◌, ◌-◌, List, [], ◌∷◌, ◌++◌, length, take, drop, sym, ap, subst, inl}
 use Rattle.std.proofs.lemmas.List.{take_rest}
 use Rattle.std.proofs.lemmas.Result.{err_from_is_err_and}
 use Rattle.base.specs.Checks.{FirstOf}
 use Rattle.labels.specs.declared.fault.KindFault.{KindFault}
-use Rattle.labels.specs.declared.fault.KindFault.TheVariants.{NoMeetOrJoin}
 use Rattle.tables.specs.Rows.{Keeps as KeepsPairs}
 use Rattle.lines.specs.declared.form.Form.{Form}
-use Rattle.lines.specs.declared.form.Form.TheVariants.{Kind as KindLine, Pair}
-use Rattle.lines.specs.declared.form.KindForm.TheVariants.{Table as TableForm}
-use Rattle.lines.specs.declared.form.Line.{Line}
 use Rattle.report.specs.declared.any.AnyKind.TheVariants.{Table}
 use Rattle.report.specs.declared.fault.Cause.TheVariants.{Kind}
 use Rattle.report.specs.Meaning.{pairs}

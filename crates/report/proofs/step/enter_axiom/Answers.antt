@@ -1,4 +1,4 @@
-use Rattle.std.proofs.Common.{◌≡◌, arith}
+use Rattle.std.proofs.Common.{arith}
 use Rattle.std.proofs.lemmas.Result.{err_from_is_err_and}
 use Rattle.report.proofs.Entering.{enter_beyond, enter_refused, enter_accepted}
 use Rattle.report.proofs.step.enter_axiom.Goals as goal

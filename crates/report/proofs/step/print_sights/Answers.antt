@@ -1,8 +1,7 @@
-use Rattle.std.proofs.Common.{◌≡◌, ℕ, Bool, List, [], ◌∷◌, ◌++◌, length, get_or, take, sym, ap, ◌∙◌, subst, arith}
+use Rattle.std.proofs.Common.{ℕ, Bool, List, [], ◌∷◌, ◌++◌, get_or, take, sym, subst, arith}
 use Rattle.std.proofs.lemmas.List.{take_more}
-use Rattle.std.proofs.lemmas.Result.{err_from_is_err_and}
 use Rattle.base.specs.Words.{In}
-use Rattle.prints.proofs.Adding.{adds_none, adds_both, adds_same}
+use Rattle.prints.proofs.Adding.{adds_both, adds_same}
 use Rattle.report.specs.Meaning.{kind_of, logic_of, book_of, users_of}
 use Rattle.report.specs.Report.{Seen}
 use Rattle.report.proofs.Sighting.{in_front, seen_more, sight_lines_more, see_refused, see_answered}

@@ -1,4 +1,4 @@
-use Rattle.std.proofs.Common.{◌≡◌, ℕ, List, drop, Option, sym, refl, ap, subst, inl, inr, arith}
+use Rattle.std.proofs.Common.{ℕ, drop, Option, sym, refl, ap, subst, inr, arith}
 use Rattle.prints.specs.Output.{Printed}
 use Rattle.report.proofs.whole.outcome_of.Goals as goal
 

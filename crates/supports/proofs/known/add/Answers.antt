@@ -1,7 +1,6 @@
-use Rattle.std.proofs.Common.{◌≡◌, ℕ, ◌+◌, ◌-◌, ◌≤◌, List, length, take, sym, ◌∙◌, subst, arith, length-take}
+use Rattle.std.proofs.Common.{◌≡◌, ◌≤◌, length, take, arith, length-take}
 use native.Mathlib.Nat.{sub-zero}
 use native.Mathlib.Decide.{dec_lt}
-use Rattle.supports.specs.Search.{Joined}
 use Rattle.supports.proofs.Joining.{joined_there, joined_gap, joined_opened}
 use Rattle.supports.proofs.known.add.Goals as goal
 

@@ -1,6 +1,6 @@
 use Rattle.std.proofs.Common.{ℕ, List, subst, take_all}
 use Rattle.supports.specs.Search.{Looked}
-use Rattle.supports.proofs.Looking.{looked_none, looked_more}
+use Rattle.supports.proofs.Looking.{looked_more}
 use Rattle.supports.proofs.known.look_over.Goals as goal
 
 pub loop-support-preserved : goal.loop-support-preserved

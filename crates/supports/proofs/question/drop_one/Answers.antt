@@ -1,4 +1,4 @@
-use Rattle.std.proofs.Common.{◌≡◌, refl, inl, inr}
+use Rattle.std.proofs.Common.{refl, inl, inr}
 use Rattle.base.proofs.Sets.{has_without}
 use Rattle.supports.proofs.question.drop_one.Goals as goal
 

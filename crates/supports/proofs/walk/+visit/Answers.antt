@@ -1,11 +1,10 @@
-use Rattle.std.proofs.Common.{◌≡◌, ℕ, ◌+◌, ◌^◌, ◌<◌, ◌≤◌, ◌⊎◌, List, length, take, sym, refl, ◌∙◌, subst, arith, rules}
+use Rattle.std.proofs.Common.{◌≡◌, ℕ, ◌+◌, ◌≤◌, ◌⊎◌, List, length, take, sym, refl, ◌∙◌, subst, arith, rules}
 use Rattle.base.specs.Bits.{Has}
-use Rattle.base.specs.Words.{Iff, In}
+use Rattle.base.specs.Words.{Iff}
 use Rattle.base.proofs.Sets.{has_and, has_with}
 use Rattle.supports.specs.Search.{Clean, Done, Grown, Branches}
 use Rattle.supports.proofs.Hitting.{branch_earlier, earlier_grows, done_branches}
 use Rattle.supports.proofs.Growing.{grown_none, grown_trans}
-use Rattle.supports.proofs.Finding.{support_small}
 use Rattle.supports.proofs.Branching.{Allowed, allowed_none, allowed_more, allowed_same, allowed_less, branches_none, branches_more, branches_skip}
 use Rattle.supports.proofs.walk.+visit.Goals as goal
 use Rattle.supports.proofs.walk.+visit.Goals.{then-contains+in_ok-known, else-contains}

@@ -1,4 +1,4 @@
-use Rattle.std.proofs.Common.{◌≡◌, ℕ, ◌-◌, List, take, refl, rules}
+use Rattle.std.proofs.Common.{take, refl, rules}
 use native.Mathlib.Nat.{sub-zero}
 use Rattle.supports.proofs.Hitting.{done_cut}
 use Rattle.supports.proofs.Looking.{not_sole}

@@ -1,4 +1,4 @@
-use Rattle.std.proofs.Common.{◌≡◌, ℕ, ◌+◌, ◌-◌, ◌^◌, ◌<◌, List, length, take, sym, refl, ◌∙◌, subst, inl, inr, arith, rules}
+use Rattle.std.proofs.Common.{ℕ, ◌-◌, ◌^◌, ◌<◌, length, take, sym, refl, ◌∙◌, subst, arith, rules}
 use Rattle.base.specs.Bits.{Has}
 use Rattle.base.specs.Words.{Iff}
 use lib.Bits.{bit_and}

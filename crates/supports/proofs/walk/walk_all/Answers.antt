@@ -1,4 +1,4 @@
-use Rattle.std.proofs.Common.{◌≡◌, ℕ, ◌^◌, ◌<◌, List, [], length, take, sym, ◌∙◌, subst, arith, rules}
+use Rattle.std.proofs.Common.{◌≡◌, [], length, take, sym, ◌∙◌, subst, arith, rules}
 use Rattle.base.proofs.Tests.{option_weaker}
 use Rattle.supports.specs.Search.{Clean}
 use Rattle.supports.proofs.Growing.{grown_joined, joined_many}

@@ -1,7 +1,5 @@
-use Rattle.std.proofs.Common.{◌≡◌, ℕ, ◌+◌, ◌^◌, ◌<◌, refl, ◌∙◌, arith, length-set}
+use Rattle.std.proofs.Common.{◌≡◌, ◌+◌, ◌<◌, refl, ◌∙◌, arith, length-set}
 use Rattle.std.proofs.lemmas.Nat.{one_shl}
-use Rattle.base.specs.Bits.{Has}
-use Rattle.base.specs.Words.{Iff}
 use Rattle.base.proofs.Sets.{has_single}
 use Rattle.tables.specs.Matrix.{zeros_unmarked, row_more}
 use Rattle.tables.proofs.builder.apart.Goals as goal

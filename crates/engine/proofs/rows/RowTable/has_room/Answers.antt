@@ -1,5 +1,4 @@
 use Rattle.std.proofs.Common.{refl, inr, arith, length-take-le}
-use Rattle.engine.specs.declared.page.Row.{Row}
 use Rattle.engine.proofs.rows.RowTable.has_room.Goals as goal
 
 pub returns-in-Some : goal.returns-in-Some

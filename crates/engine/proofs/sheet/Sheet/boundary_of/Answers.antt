@@ -1,5 +1,4 @@
-use Rattle.std.proofs.Common.{◌≡◌, ℕ, ◌+◌, List, take, sym, subst, take_all}
-use Rattle.engine.specs.Book.{Book}
+use Rattle.std.proofs.Common.{ℕ, List, subst, take_all}
 use Rattle.engine.proofs.Boundaries.{JoinUpTo, join_all, join_widened}
 use Rattle.engine.proofs.sheet.Sheet.boundary_of.Goals as goal
 

@@ -1,4 +1,4 @@
-use Rattle.std.proofs.Common.{◌≡◌, refl, ◌∙◌, arith}
+use Rattle.std.proofs.Common.{refl, arith}
 use Rattle.engine.proofs.Entering.{enter_full, enter_record, enter_label, enter_done}
 use Rattle.engine.proofs.sheet.Sheet.enter.Goals as goal
 

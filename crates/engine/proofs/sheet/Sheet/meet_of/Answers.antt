@@ -1,9 +1,6 @@
-use Rattle.std.proofs.Common.{◌≡◌, ℕ, ◌+◌, List, get_or, sym, ap, ◌∙◌, subst, arith}
-use Rattle.engine.specs.declared.page.Page.{Page}
+use Rattle.std.proofs.Common.{ℕ, ◌+◌, get_or, sym, subst, arith}
 use Rattle.engine.specs.Pages.{At}
-use Rattle.engine.specs.Book.{Book}
-use Rattle.engine.specs.Keeps.{Keeps}
-use Rattle.engine.specs.Obeys.{held, shown}
+use Rattle.engine.specs.Obeys.{held}
 use Rattle.engine.proofs.Paging.{no_page, page_read}
 use Rattle.engine.proofs.Boundaries.{MeetUpTo, meet_none, meet_skip, meet_asked}
 use Rattle.engine.proofs.sheet.Sheet.meet_of.Goals as goal

@@ -1,4 +1,4 @@
-use Rattle.std.proofs.Common.{◌≡◌, ℕ, ◌-◌, List, take, Ok, Err, sym, refl, subst, inr, arith}
+use Rattle.std.proofs.Common.{ℕ, take, Ok, Err, sym, refl, subst, inr, arith}
 use native.Mathlib.Nat.{sub-zero}
 use Rattle.engine.specs.declared.page.Row.{Row}
 use Rattle.engine.specs.Sight.{AllSupports}

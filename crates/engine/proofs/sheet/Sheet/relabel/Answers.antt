@@ -1,4 +1,4 @@
-use Rattle.std.proofs.Common.{◌≡◌, refl, ◌∙◌, inl, inr, arith}
+use Rattle.std.proofs.Common.{refl, inl, inr, arith}
 use Rattle.engine.proofs.Changing.{relabel_none, relabel_already, relabel_done, relabel_label}
 use Rattle.engine.proofs.sheet.Sheet.relabel.Goals as goal
 use Rattle.engine.proofs.sheet.Sheet.relabel.Goals.{then-n-eq0-via-then-n-eq0, then-n-eq0-via-else-n-eq0+then-n-self}

@@ -1,4 +1,4 @@
-use Rattle.std.proofs.Common.{◌≡◌, ℕ, ◌-◌, List, length, take, ap, ◌∙◌}
+use Rattle.std.proofs.Common.{ℕ, ◌-◌, length, take, ap, ◌∙◌}
 use native.Mathlib.Nat.{sub-zero}
 use Rattle.engine.specs.Obeys.{held, shown}
 use Rattle.engine.proofs.Supporting.{found_within}

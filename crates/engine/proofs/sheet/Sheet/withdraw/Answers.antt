@@ -1,4 +1,4 @@
-use Rattle.std.proofs.Common.{◌≡◌, refl, ◌∙◌, inl, inr, arith}
+use Rattle.std.proofs.Common.{refl, inl, inr, arith}
 use Rattle.engine.proofs.Changing.{withdraw_none, withdraw_already, withdraw_done}
 use Rattle.engine.proofs.sheet.Sheet.withdraw.Goals as goal
 use Rattle.engine.proofs.sheet.Sheet.withdraw.Goals.{then-n-eq0-via-then-n-eq0, then-n-eq0-via-else-n-eq0+then-n-self}

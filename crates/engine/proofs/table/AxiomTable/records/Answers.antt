@@ -1,4 +1,4 @@
-use Rattle.std.proofs.Common.{◌≡◌, length, ◌∙◌, arith, length-set, rules}
+use Rattle.std.proofs.Common.{◌∙◌, arith, length-set}
 use Rattle.engine.proofs.Paging.{records_more}
 use Rattle.engine.proofs.table.AxiomTable.records.Goals as goal
 

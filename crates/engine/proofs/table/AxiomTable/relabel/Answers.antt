@@ -1,4 +1,4 @@
-use Rattle.std.proofs.Common.{◌≡◌, ℕ, suc, ◌-◌, ◌<◌, length, take, refl, ap, ◌∙◌, arith, rules}
+use Rattle.std.proofs.Common.{◌≡◌, ℕ, suc, ◌-◌, take, refl, ap, ◌∙◌, arith}
 use Rattle.engine.specs.Pages.{change, relabelled}
 use Rattle.engine.proofs.Paging.{change_set}
 use Rattle.engine.proofs.table.AxiomTable.relabel.Goals as goal

@@ -1,5 +1,5 @@
-use Rattle.std.proofs.Common.{◌%◌, inl, inr, arith, ltb→lt}
-use Rattle.base.proofs.Tests.{eqb_iff, leb_iff, both_hold, both_fail}
+use Rattle.std.proofs.Common.{◌%◌, inl, inr}
+use Rattle.base.proofs.Tests.{eqb_iff, leb_iff, both_hold}
 use Rattle.labels.specs.Houses.{part_prime, prime_part, one_part, part_one}
 use Rattle.labels.proofs.house.HouseLabelKind.admits.Goals as goal
 

@@ -1,6 +1,5 @@
 use Rattle.std.proofs.Common.{T, sym, subst}
 use Rattle.base.specs.Words.{Iff}
-use Rattle.logics.specs.Entailment.{Entailment}
 use Rattle.report.specs.Any.{any_logic}
 use Rattle.report.specs.declared.any.AnyLogic.{AnyLogic}
 use Rattle.report.proofs.any.AnyLogicLogic.takes_record.Goals as goal

@@ -1,6 +1,5 @@
-use Rattle.std.proofs.Common.{◌≡◌, [], sym, refl, inl, inr}
+use Rattle.std.proofs.Common.{[], sym, refl, inr}
 use borrow.Author.Tests.{clash}
-use Rattle.tables.specs.Rows.{PartialOrder, matrix, Marked}
 use Rattle.tables.specs.Matrix.{linked_inside, linked_ordered, linked_keeps, looped, not_looped}
 use Rattle.tables.specs.OneProof.{ordered}
 use Rattle.tables.proofs.builder.TableBuilder.add.Goals as goal

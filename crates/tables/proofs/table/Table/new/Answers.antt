@@ -1,4 +1,4 @@
-use Rattle.std.proofs.Common.{◌≡◌, ℕ, ◌+◌, List, length, get_or, take, sym, ◌∙◌, subst, inl, inr, arith, take_all, below_more, MatchResult}
+use Rattle.std.proofs.Common.{◌≡◌, ℕ, length, get_or, take, sym, ◌∙◌, subst, inl, inr, arith, take_all, below_more, MatchResult}
 use Rattle.std.proofs.lemmas.List.{take_more}
 use Rattle.std.proofs.lemmas.Result.{err_from_is_err_and, MatchResult-weaker}
 use Rattle.labels.specs.Order.{Means}

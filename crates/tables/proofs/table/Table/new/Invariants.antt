@@ -1,5 +1,5 @@
 use Rattle.std.proofs.Common.{◌≡◌, ◌≤◌, length, take}
-use Rattle.tables.specs.Table.{TakenUpTo, TableSize}
+use Rattle.tables.specs.Table.{TakenUpTo}
 use Rattle.tables.specs.Rows.{Keeps}
 use Rattle.tables.proofs.table.Table.new.Given as goal
 
