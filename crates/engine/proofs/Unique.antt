@@ -1,5 +1,5 @@
 -- Supports, boundary, rows, answer and book are determined by the book before the call.
-use Rattle.std.proofs.Common.{◌≡◌, ℕ, ◌-◌, Bool, true, false, T, List, ◌++◌, length, get_or, take, drop, replicate, Option, sym, refl, ap, ◌∙◌, subst, ap₂, inl, inr, take-append-drop}
+use Rattle.std.proofs.Common.{◌≡◌, ℕ, ◌-◌, Bool, true, false, T, List, [], ◌∷◌, ◌++◌, length, get_or, take, drop, replicate, Option, sym, refl, ap, ◌∙◌, subst, ap₂, inl, inr, take-append-drop}
 use Rattle.labels.specs.Order.{LabelOrder, Lawful}
 use Rattle.logics.specs.Entailment.{Entailment, Goal}
 use Rattle.ordered.proofs.Lists.{ascending_unique}
@@ -11,8 +11,7 @@ use Rattle.engine.specs.declared.call.Answer.TheVariants.{Entered, Done, Count, 
 use Rattle.engine.specs.declared.call.SheetFault.{SheetFault}
 use Rattle.engine.specs.Book.{Book}
 use Rattle.engine.specs.Sight.{AllSupports, IsBoundary}
-use Rattle.base.proofs.Checks.{first_unique, none_first}
-use Rattle.engine.specs.Law.{RowGoals, Buffers, front, back, SearchLeaves, Leaves, Answered, Lawfully, Next, checks}
+use Rattle.engine.specs.Law.{RowGoals, Buffers, front, back, SearchLeaves, Leaves, FirstOf, NoneOf, Answered, Lawfully, Next, checks}
 use Rattle.engine.specs.Determined.{Determined}
 use Rattle.engine.proofs.Rowing.{smaller_ranking}
 use Rattle.engine.proofs.Boundaries.{boundary_unique}
@@ -42,6 +41,19 @@ module _ (k : LabelOrder) (laws : Lawful k) (l : Entailment) (b : Book) where
   supports_unique : (g : Goal) (ss ts : List ℕ) → AllSupports l b g ss → AllSupports l b g ts → ss ≡ ts
   supports_unique g ss ts is js =
       ascending_unique before_ranking ss ts is.ascending js.ascending (λ s. (λ h. js.complete s (is.sound s h), λ h. is.complete s (js.sound s h)))
+
+  -- the first case that holds is one
+  first_unique : (cs : List (SheetFault × Type 0)) (f h : SheetFault) → FirstOf k l b cs f → FirstOf k l b cs h → f ≡ h
+  first_unique [] f h first other = absurd first
+  first_unique (c ∷ cs) f h (inl (_, is)) (inl (_, js)) = sym is ∙ js
+  first_unique (c ∷ cs) f h (inl (holds, _)) (inr (fails, _)) = absurd (fails holds)
+  first_unique (c ∷ cs) f h (inr (fails, _)) (inl (holds, _)) = absurd (fails holds)
+  first_unique (c ∷ cs) f h (inr (_, rest)) (inr (_, more)) = first_unique cs f h rest more
+
+  none_first : (cs : List (SheetFault × Type 0)) (f : SheetFault) → NoneOf k l b cs → FirstOf k l b cs f → ⊥
+  none_first [] f none first = first
+  none_first (c ∷ cs) f (fails, none) (inl (holds, _)) = fails holds
+  none_first (c ∷ cs) f (fails, none) (inr (_, rest)) = none_first cs f none rest
 
   counted_once : (g : Goal) (x y : Answer) → ((ss : List ℕ) × AllSupports l b g ss × (x ≡ Count (length ss))) → ((ss : List ℕ) × AllSupports l b g ss × (y ≡ Count (length ss))) → x ≡ y
   counted_once g x y (ss, is, e) (ts, js, e') = e ∙ ap (λ (us : List ℕ). Count (length us)) (supports_unique g ss ts is js) ∙ sym e'

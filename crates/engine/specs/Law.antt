@@ -1,6 +1,5 @@
 -- Which calls are refused and why, what the others answer and leave, and the law of a history.
 use Rattle.std.specs.Prelude.{◌≡◌, ℕ, ◌+◌, ◌-◌, ◌<◌, ◌≤◌, min, Bool, T, ◌⊎◌, List, [], ◌∷◌, ◌++◌, length, take, drop, replicate, Option, ◌≢◌, slice_index_or}
-use Rattle.base.specs.Checks.{FirstOf, NoneOf}
 use Rattle.base.specs.Words.{Iff, In}
 use Rattle.labels.specs.Order.{LabelOrder, Label, JoinPrime}
 use Rattle.labels.specs.Fault.{number as number_of_kind}
@@ -73,6 +72,15 @@ module _ (k : LabelOrder) (l : Entailment) (b : Book) where
   checks (Boundary g) = (Logic GoalNotTaken, (l.TakesGoal g → ⊥)) ∷ (NotPublished, (Published b g → ⊥)) ∷ []
   checks (Row i) = (NotPublished, (gs : List Goal) × RowGoals b gs × (length gs ≤ i)) ∷ []
   checks (See u g) = (Logic GoalNotTaken, (l.TakesGoal g → ⊥)) ∷ (Kind NotALabel, (Label k u → ⊥)) ∷ (Kind NotAdmitted, (JoinPrime k u → ⊥)) ∷ (NotPublished, (Published b g → ⊥)) ∷ []
+
+  -- the first case that holds gives the fault
+  abbrev pub FirstOf : List (SheetFault × Type 0) → SheetFault → Type 0
+  FirstOf [] f = ⊥
+  FirstOf (c ∷ cs) f = (c.1 × (c.0 ≡ f)) ⊎ ((c.1 → ⊥) × FirstOf cs f)
+
+  abbrev pub NoneOf : List (SheetFault × Type 0) → Type 0
+  NoneOf [] = Unit {0}
+  NoneOf (c ∷ cs) = (c.1 → ⊥) × NoneOf cs
 
   abbrev pub RefusedBy : Call → SheetFault → Type 0
   RefusedBy c f = FirstOf (checks c) f

@@ -11,7 +11,7 @@ use Rattle.logics.specs.Entailment.{Entailment}
 use Rattle.logics.specs.declared.Record.{Record}
 use Rattle.logics.specs.declared.LogicFault.TheVariants.{RecordNotTaken}
 use Rattle.engine.specs.Book.{Book, after}
-use Rattle.engine.specs.Law.{checks}
+use Rattle.engine.specs.Law.{checks, RefusedBy, Accepted}
 use Rattle.engine.specs.Keeps.{Keeps}
 use Rattle.engine.specs.Obeys.{held, shown, Obeys}
 use Rattle.engine.specs.declared.table.AxiomTable.{AxiomTable}
@@ -53,26 +53,26 @@ module _ (p w : ℕ) (before : List Line) (k : AnyKind) (l : AnyLogic) (axioms :
         → FirstOf (line_checks p w before x behind) (Sheet fault)
     enter_refused r same fault axioms' rows' obeys =
         let (law, next) = obeys (book_of p w before) keeping.book in
-        let first : FirstOf (checks (any_kind k) (any_logic l) (book_of p w before) (Enter r (at x 0))) fault =
+        let first : RefusedBy (any_kind k) (any_logic l) (book_of p w before) (Enter r (at x 0)) fault =
         refused_first (any_kind k) (any_logic l) (book_of p w before) (Enter r (at x 0)) fault (λ e. let z : ◌≡◌ {A = ℕ} 0 1 = cc in omega arith) law in
-        let named : FirstOf (checks (kind_of before) (any_logic l) (book_of p w before) (Enter r (at x 0))) fault =
+        let named : RefusedBy (kind_of before) (any_logic l) (book_of p w before) (Enter r (at x 0)) fault =
         enter_first (any_kind k) (kind_of before) keeping.kind (any_logic l) (book_of p w before) r (at x 0) fault first in
-        first_by p w before x behind (Axiom f) is (Sheet fault) (first_of_sheet (checks (kind_of before) (logic_of before) (book_of p w before) (Enter (entry f x) (at x 0))) fault
-        (subst (λ (h : Entailment). FirstOf (checks (kind_of before) h (book_of p w before) (Enter (entry f x) (at x 0))) fault) (named_logic l before keeping.logic)
-        (subst (λ (q : Record). FirstOf (checks (kind_of before) (any_logic l) (book_of p w before) (Enter q (at x 0))) fault) same named)))
+        first_by p w before x behind (Axiom f) is (Sheet fault) (first_of_sheet (kind_of before) (logic_of before) (book_of p w before) (Enter (entry f x) (at x 0)) fault
+        (subst (λ (h : Entailment). RefusedBy (kind_of before) h (book_of p w before) (Enter (entry f x) (at x 0)) fault) (named_logic l before keeping.logic)
+        (subst (λ (q : Record). RefusedBy (kind_of before) (any_logic l) (book_of p w before) (Enter q (at x 0)) fault) same named)))
 
     pub enter_accepted : (r : Record) → r ≡ entry f x → (n : ℕ) (k' : AnyKind) → k' ≡ k → (l' : AnyLogic) → l' ≡ l → (axioms' : AxiomTable) (rows' : RowTable)
         → Obeys (any_kind k) (any_logic l) (Enter r (at x 0)) (Entered n) axioms rows axioms' rows' → NoneOf (line_checks p w before x behind) × Keeping p w (before ++ (x ∷ [])) k' l' axioms' rows' us
     enter_accepted r same n k' ke l' le axioms' rows' obeys =
         let (law, (d, next, keeps)) = obeys (book_of p w before) keeping.book in
         let (none, _) = accepted_none (any_kind k) (any_logic l) (book_of p w before) (Enter r (at x 0)) (Entered n) (λ fault e. let z : ◌≡◌ {A = ℕ} 0 1 = cc in omega arith) law in
-        let named : NoneOf (checks (kind_of before) (any_logic l) (book_of p w before) (Enter r (at x 0))) = enter_none (any_kind k) (kind_of before) keeping.kind (any_logic l) (book_of p w before) r (at x 0) none in
+        let named : Accepted (kind_of before) (any_logic l) (book_of p w before) (Enter r (at x 0)) = enter_none (any_kind k) (kind_of before) keeping.kind (any_logic l) (book_of p w before) r (at x 0) none in
         let book : d ≡ book_of p w (before ++ (x ∷ [])) =
         next_after (any_kind k) (any_logic l) (book_of p w before) (Enter r (at x 0)) d none next ∙ ap (λ (q : Record). after (Enter q (at x 0)) (book_of p w before)) same ∙ sym (book_by p w before x behind (Axiom f) is) in
         let users : users_of (before ++ (x ∷ [])) ≡ users_of before = users_of_same before x (λ e. let three : section x.form ≡ 3 = ap section is in omega arith) in (
-          none_by p w before x behind (Axiom f) is (none_of_sheet (checks (kind_of before) (logic_of before) (book_of p w before) (Enter (entry f x) (at x 0)))
-              (subst (λ (h : Entailment). NoneOf (checks (kind_of before) h (book_of p w before) (Enter (entry f x) (at x 0)))) (named_logic l before keeping.logic)
-              (subst (λ (q : Record). NoneOf (checks (kind_of before) (any_logic l) (book_of p w before) (Enter q (at x 0)))) same named))),
+          none_by p w before x behind (Axiom f) is (none_of_sheet (kind_of before) (logic_of before) (book_of p w before) (Enter (entry f x) (at x 0))
+              (subst (λ (h : Entailment). Accepted (kind_of before) h (book_of p w before) (Enter (entry f x) (at x 0))) (named_logic l before keeping.logic)
+              (subst (λ (q : Record). Accepted (kind_of before) (any_logic l) (book_of p w before) (Enter q (at x 0))) same named))),
           keeping_more p w before k l axioms rows us keeping x (late_by p w before x behind (Axiom f) is (omega arith)) k' ke l' le axioms' rows' (subst (λ (e : Book). Keeps (any_kind k) (any_logic l) e (held axioms') (shown rows')) book keeps) us
               (keeping.users ∙ sym users) (λ u i. keeping.admitted u (subst (In u) users i)),
         )

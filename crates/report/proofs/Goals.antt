@@ -12,7 +12,7 @@ use Rattle.labels.specs.Order.{Lawful}
 use Rattle.labels.proofs.Orders.{same_lawful}
 use Rattle.logics.specs.Entailment.{Entailment, Goal}
 use Rattle.engine.specs.Book.{Book, note, after}
-use Rattle.engine.specs.Law.{checks, Buffers, SearchLeaves}
+use Rattle.engine.specs.Law.{checks, RefusedBy, Accepted, Buffers, SearchLeaves}
 use Rattle.engine.specs.Keeps.{Keeps}
 use Rattle.engine.specs.Obeys.{held, shown, Obeys}
 use Rattle.engine.specs.Sight.{AllSupports, IsBoundary}
@@ -63,20 +63,20 @@ module _ (p w : ℕ) (before : List Line) (k : AnyKind) (l : AnyLogic) (axioms :
   pub publish_refused : (f : SheetFault) (axioms' : AxiomTable) (rows' : RowTable) → Obeys (any_kind k) (any_logic l) (Publish (two x) p w) (Refused f) axioms rows axioms' rows' → FirstOf (line_checks p w before x behind) (Sheet f)
   publish_refused f axioms' rows' obeys =
       let (law, _) = obeys (book_of p w before) keeping.book in
-      let first : FirstOf (checks (kind_of before) (any_logic l) (book_of p w before) (Publish (two x) p w)) f =
+      let first : RefusedBy (kind_of before) (any_logic l) (book_of p w before) (Publish (two x) p w) f =
       refused_first (any_kind k) (any_logic l) (book_of p w before) (Publish (two x) p w) f (λ (ss, _, e). let z : ◌≡◌ {A = ℕ} 0 1 = cc in omega arith) law in
-      first_by p w before x behind GoalLine is (Sheet f) (first_of_sheet (checks (kind_of before) (logic_of before) (book_of p w before) (Publish (two x) p w)) f
-      (subst (λ (h : Entailment). FirstOf (checks (kind_of before) h (book_of p w before) (Publish (two x) p w)) f) (named_logic l before keeping.logic) first))
+      first_by p w before x behind GoalLine is (Sheet f) (first_of_sheet (kind_of before) (logic_of before) (book_of p w before) (Publish (two x) p w) f
+      (subst (λ (h : Entailment). RefusedBy (kind_of before) h (book_of p w before) (Publish (two x) p w) f) (named_logic l before keeping.logic) first))
 
   module _ (n : ℕ) (k' : AnyKind) (ke : k' ≡ k) (l' : AnyLogic) (le : l' ≡ l) (axioms' : AxiomTable) (rows' : RowTable) (obeys : Obeys (any_kind k) (any_logic l) (Publish (two x) p w) (Count n) axioms rows axioms' rows') where
-    accepted : NoneOf (checks (any_kind k) (any_logic l) (book_of p w before) (Publish (two x) p w)) × ((ss : List ℕ) × AllSupports (any_logic l) (book_of p w before) (two x) ss × (Count n ≡ Count (length ss)))
+    accepted : Accepted (any_kind k) (any_logic l) (book_of p w before) (Publish (two x) p w) × ((ss : List ℕ) × AllSupports (any_logic l) (book_of p w before) (two x) ss × (Count n ≡ Count (length ss)))
     accepted = accepted_none (any_kind k) (any_logic l) (book_of p w before) (Publish (two x) p w) (Count n) (λ fault e. let z : ◌≡◌ {A = ℕ} 0 1 = cc in omega arith) (obeys (book_of p w before) keeping.book).0
 
-    named_none : NoneOf (checks (kind_of before) (logic_of before) (book_of p w before) (Publish (two x) p w))
-    named_none = subst (λ (h : Entailment). NoneOf (checks (kind_of before) h (book_of p w before) (Publish (two x) p w))) (named_logic l before keeping.logic) accepted.0
+    named_none : Accepted (kind_of before) (logic_of before) (book_of p w before) (Publish (two x) p w)
+    named_none = subst (λ (h : Entailment). Accepted (kind_of before) h (book_of p w before) (Publish (two x) p w)) (named_logic l before keeping.logic) accepted.0
 
     publish_none : NoneOf (line_checks p w before x behind)
-    publish_none = none_by p w before x behind GoalLine is (none_of_sheet (checks (kind_of before) (logic_of before) (book_of p w before) (Publish (two x) p w)) named_none)
+    publish_none = none_by p w before x behind GoalLine is (none_of_sheet (kind_of before) (logic_of before) (book_of p w before) (Publish (two x) p w) named_none)
 
     booked_now : book_of p w (before ++ (x ∷ [])) ≡ after (Publish (two x) p w) (book_of p w before)
     booked_now = book_by p w before x behind GoalLine is

@@ -11,7 +11,7 @@ use Rattle.logics.specs.El.{el, ElRecord, ElLimits}
 use Rattle.logics.specs.Links.{links}
 use Rattle.logics.specs.declared.Record.{Record}
 use Rattle.engine.specs.Book.{Book, after}
-use Rattle.engine.specs.Law.{checks, Lawfully, Answered, Next}
+use Rattle.engine.specs.Law.{checks, FirstOf as SheetFirst, NoneOf as SheetNone, RefusedBy, Accepted, Lawfully, Answered, Next}
 use Rattle.engine.specs.Keeps.{Keeps}
 use Rattle.engine.specs.Obeys.{held, shown}
 use Rattle.engine.specs.declared.table.AxiomTable.{AxiomTable}
@@ -52,14 +52,26 @@ module _ (p w : ℕ) (before : List Line) (x : Line) (behind : List ℕ) (f : Fo
   pub late_by : 3 ≤ section f → 3 ≤ section x.form
   late_by late = subst (λ (h : Form). 3 ≤ section h) (sym is) late
 
-pub first_of_sheet : (cs : List (SheetFault × Type 0)) (f : SheetFault) → FirstOf cs f → FirstOf (of_sheet cs) (Sheet f)
-first_of_sheet [] f first = first
-first_of_sheet (c ∷ cs) f (inl (holds, is)) = inl (holds, ap (λ (g : SheetFault). Sheet g) is)
-first_of_sheet (c ∷ cs) f (inr (fails, rest)) = inr (fails, first_of_sheet cs f rest)
+-- the checks of a call on the sheet are those of its line, each fault within the line's
+module _ (k : LabelOrder) (l : Entailment) (b : Book) where
+  first_in : (cs : List (SheetFault × Type 0)) (f : SheetFault) → SheetFirst k l b cs f → FirstOf (of_sheet cs) (Sheet f)
+  first_in [] f first = first
+  first_in (c ∷ cs) f (inl (holds, is)) = inl (holds, ap (λ (g : SheetFault). Sheet g) is)
+  first_in (c ∷ cs) f (inr (fails, rest)) = inr (fails, first_in cs f rest)
 
-pub none_of_sheet : (cs : List (SheetFault × Type 0)) → NoneOf cs → NoneOf (of_sheet cs)
-none_of_sheet [] none = tt
-none_of_sheet (c ∷ cs) (fails, rest) = (fails, none_of_sheet cs rest)
+  none_in : (cs : List (SheetFault × Type 0)) → SheetNone k l b cs → NoneOf (of_sheet cs)
+  none_in [] none = tt
+  none_in (c ∷ cs) (fails, rest) = (fails, none_in cs rest)
+
+  pub first_of_sheet : (c : Call) (f : SheetFault) → RefusedBy k l b c f → FirstOf (of_sheet (checks k l b c)) (Sheet f)
+  first_of_sheet c f first = first_in (checks k l b c) f first
+
+  pub none_of_sheet : (c : Call) → Accepted k l b c → NoneOf (of_sheet (checks k l b c))
+  none_of_sheet c none = none_in (checks k l b c) none
+
+  -- a call that passes its checks is not refused
+  pub never_refused : (c : Call) (f : SheetFault) → Accepted k l b c → RefusedBy k l b c f → ⊥
+  never_refused c f none first = none_first (of_sheet (checks k l b c)) (Sheet f) (none_of_sheet c none) (first_of_sheet c f first)
 
 -- the logic is the one that the lines name
 pub named_logic : (l : AnyLogic) (before : List Line) → Named l before → any_logic l ≡ logic_of before
@@ -95,27 +107,27 @@ taken_small (Links l) r taken = (omega (arith, l.limits, taken.from), omega (ari
 
 -- a call that is refused is refused by its first check that fails, and one that is not passes them all
 module _ (k : LabelOrder) (l : Entailment) (b : Book) (c : Call) where
-  pub refused_first : (f : SheetFault) → (Answered k l b c (Refused f) → ⊥) → Lawfully k l b c (Refused f) → FirstOf (checks k l b c) f
-  refused_first f never (inl (g, first, is)) = let same : g ≡ f = cc in subst (FirstOf (checks k l b c)) same first
+  pub refused_first : (f : SheetFault) → (Answered k l b c (Refused f) → ⊥) → Lawfully k l b c (Refused f) → RefusedBy k l b c f
+  refused_first f never (inl (g, first, is)) = let same : g ≡ f = cc in subst (RefusedBy k l b c) same first
   refused_first f never (inr (_, answered)) = absurd (never answered)
 
-  pub accepted_none : (x : Answer) → ((f : SheetFault) → x ≡ Refused f → ⊥) → Lawfully k l b c x → NoneOf (checks k l b c) × Answered k l b c x
+  pub accepted_none : (x : Answer) → ((f : SheetFault) → x ≡ Refused f → ⊥) → Lawfully k l b c x → Accepted k l b c × Answered k l b c x
   accepted_none x never (inl (f, _, is)) = absurd (never f is)
   accepted_none x never (inr done) = done
 
-  pub next_after : (d : Book) → NoneOf (checks k l b c) → Next k l b c d → d ≡ after c b
-  next_after d none (inl (f, first, _)) = absurd (none_first (checks k l b c) f none first)
+  pub next_after : (d : Book) → Accepted k l b c → Next k l b c d → d ≡ after c b
+  next_after d none (inl (f, first, _)) = absurd (never_refused k l b c f none first)
   next_after d none (inr (_, is)) = is
 
 -- the checks of enter, by two orders that are the same
 module _ (k h : LabelOrder) (s : Same k h) (l : Entailment) (b : Book) (r : Record) (a : ℕ) where
-  pub enter_first : (f : SheetFault) → FirstOf (checks k l b (Enter r a)) f → FirstOf (checks h l b (Enter r a)) f
+  pub enter_first : (f : SheetFault) → RefusedBy k l b (Enter r a) f → RefusedBy h l b (Enter r a) f
   enter_first f (inl full) = inl full
   enter_first f (inr (some, inl record_bad)) = inr (some, inl record_bad)
   enter_first f (inr (some, inr (takes, inl (none, is)))) = inr (some, inr (takes, inl ((λ label. none (label_same h k (same_sym k h s) a label)), is)))
   enter_first f (inr (some, inr (takes, inr (label, never)))) = absurd never
 
-  pub enter_none : NoneOf (checks k l b (Enter r a)) → NoneOf (checks h l b (Enter r a))
+  pub enter_none : Accepted k l b (Enter r a) → Accepted h l b (Enter r a)
   enter_none (some, (takes, (label, rest))) = (some, (takes, ((λ none. label (λ lab. none (label_same k h s a lab))), rest)))
 
 -- one line more, behind the logic
