@@ -75,7 +75,7 @@ fn make_supports<K: LabelKind, L: Logic>(
     places: &mut [u64],
     area: &mut [u8],
 ) -> Answer
-    ensures { Makes (K.meaning sheet.now.kind) (L.meaning sheet.now.logic) (given (length places.entry.now) (length area.old) (Supports goal most bytes)) result sheet.now.axioms sheet.now.rows (record { places = places.entry.now; area = area.old }) sheet.now.axioms sheet.now.rows (record { places = places.exit.now; area = area.new }) }
+    ensures { Makes (K.meaning sheet.now.kind) (L.meaning sheet.now.logic) (given (length places.old) (length area.old) (Supports goal most bytes)) result sheet.now.axioms sheet.now.rows (record { places = places.old; area = area.old }) sheet.now.axioms sheet.now.rows (record { places = places.new; area = area.new }) }
 {
     let p = most.min(places.len());
     let w = bytes.min(area.len());
@@ -91,7 +91,7 @@ fn make_publish<K: LabelKind, L: Logic>(
     places: &mut [u64],
     area: &mut [u8],
 ) -> Answer
-    ensures law { Makes (K.meaning sheet.old.kind) (L.meaning sheet.old.logic) (given (length places.entry.now) (length area.old) (Publish goal most bytes)) result sheet.old.axioms sheet.old.rows (record { places = places.entry.now; area = area.old }) sheet.new.axioms sheet.new.rows (record { places = places.exit.now; area = area.new }) }
+    ensures law { Makes (K.meaning sheet.old.kind) (L.meaning sheet.old.logic) (given (length places.old) (length area.old) (Publish goal most bytes)) result sheet.old.axioms sheet.old.rows (record { places = places.old; area = area.old }) sheet.new.axioms sheet.new.rows (record { places = places.new; area = area.new }) }
     ensures kind { sheet.new.kind ≡ sheet.old.kind }
     ensures logic { sheet.new.logic ≡ sheet.old.logic }
 {
@@ -107,7 +107,7 @@ fn make<K: LabelKind, L: Logic>(
     places: &mut [u64],
     area: &mut [u8],
 ) -> Answer
-    ensures law { Makes (K.meaning sheet.old.kind) (L.meaning sheet.old.logic) (given (length places.entry.now) (length area.old) call) result sheet.old.axioms sheet.old.rows (record { places = places.entry.now; area = area.old }) sheet.new.axioms sheet.new.rows (record { places = places.exit.now; area = area.new }) }
+    ensures law { Makes (K.meaning sheet.old.kind) (L.meaning sheet.old.logic) (given (length places.old) (length area.old) call) result sheet.old.axioms sheet.old.rows (record { places = places.old; area = area.old }) sheet.new.axioms sheet.new.rows (record { places = places.new; area = area.new }) }
     ensures kind { sheet.new.kind ≡ sheet.old.kind }
     ensures logic { sheet.new.logic ≡ sheet.old.logic }
 {
@@ -133,7 +133,7 @@ pub fn run<K: LabelKind, L: Logic>(
     places: &mut [u64],
     area: &mut [u8],
 )
-    ensures lawful { Run (K.meaning kind) (L.meaning logic) blank (record { places = places.entry.now; area = area.old }) (map (given (length places.entry.now) (length area.old)) (take (length answers.old) calls.now)) (take (length calls.now) answers.new) (record { places = places.exit.now; area = area.new }) }
+    ensures lawful { Run (K.meaning kind) (L.meaning logic) blank (record { places = places.old; area = area.old }) (map (given (length places.old) (length area.old)) (take (length answers.old) calls.now)) (take (length calls.now) answers.new) (record { places = places.new; area = area.new }) }
     ensures unique { Determined (K.meaning kind) (L.meaning logic) }
     ensures rest { drop (length calls.now) answers.new ≡ drop (length calls.now) answers.old }
 {

@@ -129,7 +129,7 @@ impl<K: LabelKind, L: Logic> Sheet<K, L> {
         area: &mut [u8],
     ) -> Result<usize, SheetFault>
         ensures law { Obeys (K.meaning self.now.kind) (L.meaning self.now.logic) (Supports goal (length places.old) (length area.old)) (answer Count result) self.now.axioms self.now.rows self.now.axioms self.now.rows }
-        ensures leaves { (b : Book) → Keeps (K.meaning self.now.kind) (L.meaning self.now.logic) b (held self.now.axioms) (shown self.now.rows) → SearchLeaves (K.meaning self.now.kind) (L.meaning self.now.logic) b goal (answer Count result) (record { places = places.entry.now; area = area.old }) (record { places = places.exit.now; area = area.new }) }
+        ensures leaves { (b : Book) → Keeps (K.meaning self.now.kind) (L.meaning self.now.logic) b (held self.now.axioms) (shown self.now.rows) → SearchLeaves (K.meaning self.now.kind) (L.meaning self.now.logic) b goal (answer Count result) (record { places = places.old; area = area.old }) (record { places = places.new; area = area.new }) }
         ensures within { IfOk result (λ n. n ≤ length places.old) }
     {
         if !self.logic.takes_goal(goal) {
@@ -149,7 +149,7 @@ impl<K: LabelKind, L: Logic> Sheet<K, L> {
         area: &mut [u8],
     ) -> Result<usize, SheetFault>
         ensures law { Obeys (K.meaning self.old.kind) (L.meaning self.old.logic) (Publish goal (length places.old) (length area.old)) (answer Count result) self.old.axioms self.old.rows self.new.axioms self.new.rows }
-        ensures leaves { (b : Book) → Keeps (K.meaning self.old.kind) (L.meaning self.old.logic) b (held self.old.axioms) (shown self.old.rows) → SearchLeaves (K.meaning self.old.kind) (L.meaning self.old.logic) b goal (answer Count result) (record { places = places.entry.now; area = area.old }) (record { places = places.exit.now; area = area.new }) }
+        ensures leaves { (b : Book) → Keeps (K.meaning self.old.kind) (L.meaning self.old.logic) b (held self.old.axioms) (shown self.old.rows) → SearchLeaves (K.meaning self.old.kind) (L.meaning self.old.logic) b goal (answer Count result) (record { places = places.old; area = area.old }) (record { places = places.new; area = area.new }) }
         ensures within { IfOk result (λ n. n ≤ length places.old) }
         ensures kind { self.new.kind ≡ self.old.kind }
         ensures logic { self.new.logic ≡ self.old.logic }

@@ -3,7 +3,8 @@ use Rattle.std.specs.Prelude.{◌≡◌, ℕ, List, refl}
 use Rattle.std.proofs.Common.{sym, subst, inl, inr}
 use Rattle.base.specs.Words.{In}
 use Rattle.logics.specs.Entailment.{Goal}
-use Rattle.logics.specs.Links.{Link, Chain, one, more, Leads}
+use Rattle.logics.specs.Links.{Link, Chain, one, more, Leads, links}
+use Rattle.logics.specs.Plan.{Laid, links_plan}
 use Rattle.logics.specs.WorkArea.{Ticked, Settled}
 use Rattle.logics.specs.declared.Record.{Record}
 use Rattle.logics.specs.Marked.{Each}
@@ -34,3 +35,15 @@ module _ {xs ys : List Record} (sub : (x : Record) → In x xs → In x ys) wher
   pub leads_more : (g : Goal) → Leads xs g → Leads ys g
   leads_more g (inl e) = inl e
   leads_more g (inr c) = inr (longer c)
+
+-- the cells of a goal that links takes
+pub links_laid : (n : ℕ) (g : Goal) → (links n).TakesGoal g → Laid (links_plan n) g
+links_laid n g taken =
+    record {
+      within = taken.1;
+      same = refl;
+      first_within = taken.0;
+      second_within = taken.0;
+      first_may = λ rs. inl refl;
+      second_may = λ rs. inl refl;
+    }

@@ -1,9 +1,10 @@
 -- What follows in el, step by step, and the cells that stand for it.
 use Rattle.std.specs.Prelude.{◌≡◌, ℕ, ◌*◌, ◌/◌, ◌%◌, ◌<◌, ◌≤◌, Bool, true, false, T, List, length, refl}
-use Rattle.std.proofs.Common.{subst}
+use Rattle.std.proofs.Common.{subst, arith}
 use Rattle.std.proofs.Math.Arith.{digits_lt, digits_div, digits_mod}
 use Rattle.base.specs.Words.{In}
-use Rattle.logics.specs.Plan.{Entailed, InGrid, Tried, cell}
+use Rattle.logics.specs.El.{el}
+use Rattle.logics.specs.Plan.{Entailed, InGrid, Laid, Tried, cell, el_plan}
 use Rattle.logics.specs.Entailment.{Goal}
 use Rattle.logics.specs.Interpretation.{Entails}
 use Rattle.logics.specs.WorkArea.{Ticked, Inferred, Settled, Sound}
@@ -49,3 +50,16 @@ module _ (rs : List Record) where
   derive_one n p q k {before} p_in q_in k_in wide step =
       infer_one _ _ _ _ _ _ (digits_lt k_in.0 k_in.1) wide
       (λ all s t. cell_may n k k_in.1 (step (cell_stands n before all p p_in s) (cell_stands n before all q q_in t)))
+
+-- the cells of a goal that el takes
+pub el_laid : (n roles : ℕ) (g : Goal) → (el n roles).TakesGoal g → Laid (el_plan n roles) g
+el_laid n roles g taken =
+    let top : 0 < n = omega (arith, taken.0) in
+    record {
+      within = digits_lt taken.0 taken.1;
+      same = cell_same n g taken.1;
+      first_within = digits_lt taken.0 top;
+      second_within = digits_lt taken.0 taken.0;
+      first_may = λ rs. cell_may rs n (g.0, 0) top (entails_everything rs g.0);
+      second_may = λ rs. cell_may rs n (g.0, g.0) taken.0 (entails_self rs g.0);
+    }

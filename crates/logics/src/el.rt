@@ -7,9 +7,7 @@ ghost use Rattle.logics.specs.Entailment.{marked};
 ghost use Rattle.logics.specs.Plan.{InGrid, Ready, Selects, Tried, cell, el_plan};
 ghost use Rattle.logics.specs.WorkArea.{Inferred, Settled};
 ghost use Rattle.logics.specs.declared.LogicFault.TheVariants.{SizeOutOfLimits};
-ghost use Rattle.std.proofs.Common.{arith};
-ghost use Rattle.std.proofs.Math.Arith.{digits_lt};
-ghost use Rattle.logics.specs.Entailed.{cell_same, cell_may, entails_self, entails_everything, entails_more};
+ghost use Rattle.logics.specs.Entailed.{el_laid, entails_more};
 
 use crate::area::infer;
 use crate::marks::{first_marked, places_of};
@@ -170,15 +168,7 @@ impl El {
 impl Saturates for El {
     ghost plan = { λ l. el_plan l.concepts l.roles };
 
-    ghost laid = { λ s g taken.
-        record {
-          within = digits_lt taken.0 taken.1;
-          same = cell_same _ g taken.1;
-          first_within = digits_lt taken.0 (omega (arith, taken.0));
-          second_within = digits_lt taken.0 taken.0;
-          first_may = λ rs. cell_may rs _ (g.0, 0) (omega (arith, taken.0)) (entails_everything rs g.0);
-          second_may = λ rs. cell_may rs _ (g.0, g.0) taken.0 (entails_self rs g.0);
-        } };
+    ghost laid = { λ s. el_laid s.concepts s.roles };
 
     fn cells(&self) -> usize {
         let n = self.concepts as usize;

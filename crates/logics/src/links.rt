@@ -3,8 +3,7 @@ ghost use Rattle.std.specs.Prelude.{◌≡◌, MatchResult};
 ghost use Rattle.logics.specs.Links.{links, PointLimits};
 ghost use Rattle.logics.specs.Plan.{links_plan};
 ghost use Rattle.logics.specs.declared.LogicFault.TheVariants.{SizeOutOfLimits};
-ghost use Rattle.std.proofs.Common.{rules, arith};
-ghost use Rattle.logics.specs.Chains.{leads_more};
+ghost use Rattle.logics.specs.Chains.{links_laid, leads_more};
 
 use crate::area::infer;
 use crate::marks::first_marked;
@@ -34,7 +33,7 @@ impl Links {
 impl Saturates for Links {
     ghost plan = { λ l. links_plan l.points };
 
-    ghost laid = { first_of (Prim.search rules, Prim.grind (arith, Self.row.coded.inj)) };
+    ghost laid = { λ s. links_laid s.points };
 
     fn cells(&self) -> usize {
         self.points as usize
