@@ -1,4 +1,4 @@
-"""Compares target/bin/sheet with the reference.
+"""Compares crates/sheet/out/sheet (built by `rt run` in crates/sheet) with the reference.
 
     python3 reference/compare.py N SEED     N random files made from the seed
     python3 reference/compare.py kept       the kept cases, with the kept answers
@@ -16,7 +16,7 @@ import reference
 import sheets
 
 ROOT = pathlib.Path(__file__).resolve().parent.parent
-PROGRAM = ROOT / "target" / "bin" / "sheet"
+PROGRAM = ROOT / "crates" / "sheet" / "out" / "sheet"
 SECONDS = 120
 
 

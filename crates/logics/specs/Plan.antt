@@ -60,7 +60,7 @@ Selects form rs places =
 abbrev pub links_plan : ℕ → Plan
 links_plan n = record { logic = links n; stands = λ g k. (g.0, k); place = λ g. g.1; firsts = λ g. (g.0, g.0) }
 
--- el: the cell at row p .0 and column p .1
+-- el: the cell at row p.0 and column p.1
 abbrev pub cell : ℕ → ℕ × ℕ → ℕ
 cell n p = p.0 * n + p.1
 
