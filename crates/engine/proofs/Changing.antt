@@ -1,5 +1,5 @@
 -- Withdrawing and relabelling an axiom: one page changes, and no other.
-use Rattle.std.proofs.Common.{◌≡◌, ℕ, ◌+◌, ◌-◌, ◌<◌, ◌≤◌, List, [], ◌∷◌, ◌++◌, length, Ok, Err, sym, refl, ap, ◌∙◌, subst, inl, inr, ⊎_elim, arith}
+use Rattle.std.proofs.Common.{◌≡◌, ℕ, ◌+◌, ◌-◌, List, [], ◌∷◌, Ok, Err, sym, refl, ap, ◌∙◌, subst, inl, inr, ⊎_elim, arith}
 use Rattle.base.specs.Checks.{FirstOf, NoneOf}
 use Rattle.base.proofs.Checks.{first_more}
 use Rattle.labels.specs.Order.{LabelOrder, Label}

@@ -1,5 +1,5 @@
 -- A history, made call by call.
-use Rattle.std.proofs.Common.{◌≡◌, ℕ, ◌+◌, ◌-◌, ◌<◌, ◌≤◌, min, List, [], ◌∷◌, ◌++◌, Result, map, length, get_or, take, drop, set, sym, refl, ap, ◌∙◌, subst, ap₂, arith, length-take-le, take_all, drop-drop, take_at, drop_at}
+use Rattle.std.proofs.Common.{◌≡◌, ℕ, ◌+◌, ◌-◌, ◌<◌, ◌≤◌, min, List, [], ◌∷◌, ◌++◌, Ok, Err, Result, MatchResult, IsOkAnd, map, length, get_or, take, drop, set, sym, refl, ap, ◌∙◌, subst, ap₂, arith, length-take-le, take_all, drop-drop, take_at, drop_at}
 use native.Mathlib.Decide.{dec_lt}
 use Rattle.std.proofs.lemmas.List.{take_more_set, map_more}
 use Rattle.labels.specs.Order.{LabelOrder}
@@ -10,8 +10,15 @@ use Rattle.engine.specs.declared.call.Answer.{Answer}
 use Rattle.engine.specs.declared.call.SheetFault.{SheetFault}
 use Rattle.engine.specs.Book.{Book}
 use Rattle.engine.specs.Law.{Buffers, buffers, front, back, SearchLeaves, Leaves, Lawfully, Next, Run, given}
+use Rattle.engine.specs.Keeps.{answer}
 use Rattle.engine.specs.Obeys.{Holds, Obeys, Leaving}
 use Rattle.engine.specs.Makes.{Makes}
+
+-- a result whose value is wrapped is the answer that it stands for
+pub mapped : {A : Type 0} (f : A → Answer) (r : Result A SheetFault) (x : Result Answer SheetFault) → MatchResult r (λ v. IsOkAnd x (λ y. y ≡ f v)) (λ e. x ≡ Err e) → x ≡ answer f r
+mapped f (Ok v) (Ok y) is = ap Ok is
+mapped f (Ok v) (Err e) is = absurd is
+mapped f (Err e) x is = is
 
 -- the first places and bytes are those that the search was given, and the others are as they were
 front_leaves : (k : LabelOrder) (l : Entailment) (b : Book) (g : Goal) (x : Result Answer SheetFault) (places area ps bs : List ℕ) (p w : ℕ) → length ps ≡ p → length bs ≡ w
@@ -121,6 +128,12 @@ run_step order entails kind logic b d p w calls answers i lt lt' e m so_far s sa
     run_more (order kind) (entails logic) b d (map (given p w) (take i calls)) (take i answers) e m so_far c x n f
     (rw (sym same_kind, sym same_logic) law) (rw (sym same_kind, sym same_logic) next) (rw (sym same_kind, sym same_logic) (makes.leaves m keeps)) in
     (n, subst (λ (cs : List Call). R cs (take (i + 1) (set answers i x))) (sym (map_more (given p w) calls i none lt)) (subst (R (map (given p w) (take i calls) ++ (c ∷ []))) (sym (take_more_set answers i x lt')) more), kept)
+
+-- the same call, by other names for how many places and bytes there are
+pub makes_given : {K L : Type 0} (order : K → LabelOrder) (entails : L → Entailment) (s t : Sheet K L) (p p' w w' : ℕ) → p ≡ p' → w ≡ w' → (q : Call) (x : Result Answer SheetFault) (d e : Buffers)
+    → Makes order entails (given p w q) x s d t e → Makes order entails (given p' w' q) x s d t e
+makes_given order entails s t p p' w w' pe we q x d e makes =
+    subst (λ (n : ℕ). Makes order entails (given n w' q) x s d t e) pe (subst (λ (n : ℕ). Makes order entails (given p n q) x s d t e) we makes)
 
 -- what lies past a place lies past an earlier one
 pub drop_later : {A : Type 0} (xs ys : List A) (i j : ℕ) → i ≤ j → drop i xs ≡ drop i ys → drop j xs ≡ drop j ys

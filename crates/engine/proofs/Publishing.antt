@@ -1,12 +1,11 @@
 -- Publishing: one goal more in the book, its row among the rows.
-use Rattle.std.proofs.Common.{◌≡◌, ℕ, ◌+◌, ◌<◌, ◌≤◌, Bool, true, false, cond, T, eqb, ◌⊎◌, List, [], ◌∷◌, ◌++◌, length, take, Some, None, Ok, Err, Option, sym, refl, ap, ◌∙◌, subst, ap₂, inl, inr, ⊎_elim, arith, length-append, take_all}
+use Rattle.std.proofs.Common.{◌≡◌, ℕ, ◌+◌, ◌<◌, ◌≤◌, Bool, true, false, cond, T, eqb, ◌⊎◌, List, [], ◌∷◌, ◌++◌, length, take, replicate, ◌-◌, Some, None, Ok, Err, Option, sym, refl, ap, ◌∙◌, subst, ap₂, inl, inr, ⊎_elim, arith, length-append, take_all}
 use lib.Seq.{take-append-le}
 use Rattle.base.specs.Words.{Iff, In}
 use Rattle.base.proofs.Tests.{eqb_iff}
 use Rattle.labels.specs.Order.{LabelOrder}
 use Rattle.logics.specs.Entailment.{Entailment, Goal}
 use Rattle.logics.specs.declared.LogicFault.TheVariants.{GoalNotTaken}
-use Rattle.ordered.specs.Lists.{Ascending}
 use Rattle.ordered.proofs.Lists.{in_append}
 use Rattle.engine.specs.declared.page.Page.{Page}
 use Rattle.engine.specs.declared.page.Row.{Row}
@@ -14,14 +13,15 @@ use Rattle.engine.specs.declared.sheet.Sheet.{Sheet}
 use Rattle.engine.specs.declared.call.Call.TheVariants.{Publish}
 use Rattle.engine.specs.declared.call.Answer.TheVariants.{Count}
 use Rattle.engine.specs.declared.call.SheetFault.{SheetFault}
-use Rattle.engine.specs.declared.call.SheetFault.TheVariants.{RowsFull, ShortArea, MoreSupports, Logic}
+use Rattle.engine.specs.declared.call.SheetFault.TheVariants.{RowsFull, MoreSupports, Logic}
 use Rattle.engine.specs.Book.{Book, same, note}
 use Rattle.engine.specs.Sight.{AllSupports, MeetOf, LeastAbove, IsBoundary}
-use Rattle.engine.specs.Law.{MoreThan, Published}
+use Rattle.engine.specs.Law.{Published}
 use Rattle.engine.specs.Rows.{HasRow, NoRow, OneMore, Put}
 use Rattle.engine.specs.Keeps.{Right, Keeps}
 use Rattle.engine.specs.Obeys.{Holds, Obeys, Searches}
 use Rattle.engine.proofs.Obeying.{refused, accepted}
+use Rattle.engine.proofs.Supporting.{supports_unique}
 use Rattle.engine.proofs.Reading.{goals_of, goal_of_row, row_of_goal, unpublished, published}
 
 -- two goals are the same when both numbers are
@@ -116,6 +116,15 @@ module _ (k : LabelOrder) (l : Entailment) (b : Book) (pages : List Page) (rows 
         right = λ r h.
             right_noted k l b (note g b.published) r (⊎_elim (λ is. subst (Right k l b) (sym is) right) (keeps.right r) ((more.among r).0 h));
       }
+
+-- the places that are counted hold all supports
+pub front_supports : (l : Entailment) (b : Book) (g : Goal) (n : ℕ) (places places' : List ℕ) → (ss : List ℕ) × AllSupports l b g ss × (n ≡ length ss)
+    → (ts : List ℕ) × AllSupports l b g ts × (places' ≡ ts ++ replicate (length places - length ts) 0) → AllSupports l b g (take n places')
+front_supports l b g n places places' (ss, is, count) (ts, all, filled) =
+    let same : ss ≡ ts = supports_unique l b g ss ts is all in
+    let size : n ≡ length ts = count ∙ ap length same in
+    let front : take n places' ≡ ts = ap (take n) filled ∙ take-append-le n ts _ (omega arith) ∙ take_all n ts (omega arith) in
+    subst (AllSupports l b g) (sym front) all
 
 -- the refusal for want of a row is not the one for want of places
 pub rows_first : RowsFull ≡ MoreSupports → ⊥

@@ -1,6 +1,7 @@
 -- The calls that read rows: the boundary of a goal, the row at a place, and what a user may see.
-use Rattle.std.proofs.Common.{None, Some, Ok, Err, Result, ⊎_elim, ◌⊎◌, ◌≡◌, ℕ, zero, suc, ◌<◌, ◌≤◌, Bool, T, List, [], ◌∷◌, map, length, get_or, Option, sym, refl, ap, subst, inl, inr, arith, MatchOption}
+use Rattle.std.proofs.Common.{None, Some, Ok, Err, Result, ⊎_elim, ◌≡◌, ℕ, zero, suc, ◌<◌, ◌≤◌, Bool, T, List, [], ◌∷◌, map, length, get_or, slice_get, false, Option, sym, refl, ap, subst, inl, inr, arith, MatchOption}
 use Rattle.std.specs.Option.{ok_or}
+use Rattle.std.proofs.lemmas.Option.{slice_get_cases}
 use Rattle.base.specs.Words.{Iff, In}
 use Rattle.labels.specs.Order.{LabelOrder, Label, Under, JoinPrime, Lawful}
 use Rattle.labels.specs.Fault.{UserRefused}
@@ -21,7 +22,7 @@ use Rattle.engine.specs.Law.{Published, Smaller, RowGoals}
 use Rattle.engine.specs.declared.call.SheetFault.{SheetFault}
 use Rattle.engine.specs.Rows.{ByGoal, HasRow, NoRow}
 use Rattle.engine.specs.Keeps.{Keeps, answer}
-use Rattle.engine.specs.Obeys.{Holds, Obeys}
+use Rattle.engine.specs.Obeys.{Obeys}
 use Rattle.engine.proofs.Obeying.{refused, accepted}
 use Rattle.engine.proofs.Rowing.{smaller_ranking}
 use Rattle.engine.proofs.Boundaries.{LabelsTaken}
@@ -71,6 +72,15 @@ module _ (k : LabelOrder) (l : Entailment) (b : Book) (pages : List Page) (rows 
       let le = ascending_fewer smaller_ranking (goals_of rows) gs row_goals.ascending is.ascending (λ g h. (is.same g).1 ((keeps.goals g).0 h)) in
       omega (arith, goals_length rows)
 
+Err-Ok : {A E : Type 0} {e : E} {x : A} → ◌≡◌ {A = Result A E} (Err e) (Ok x) → ⊥
+Err-Ok e = let z : ◌≡◌ {A = ℕ} 0 1 = cc in omega arith
+
+Ok-Err : {A E : Type 0} {e : E} {x : A} → ◌≡◌ {A = Result A E} (Ok x) (Err e) → ⊥
+Ok-Err e = let z : ◌≡◌ {A = ℕ} 0 1 = cc in omega arith
+
+same_Ok : {A E : Type 0} {x y : A} → ◌≡◌ {A = Result A E} (Ok x) (Ok y) → x ≡ y
+same_Ok e = cc
+
 module _ {K L : Type 0} (order : K → LabelOrder) (entails : L → Entailment) (s : Sheet K L) where
   abbrev k : LabelOrder
   k = order s.kind
@@ -94,6 +104,15 @@ module _ {K L : Type 0} (order : K → LabelOrder) (entails : L → Entailment) 
           (goals_of s.rows, row_goals k l b s.axioms s.rows keeps, (r.boundary, rw goal (keeps.right r there).boundary, rw goal refl)),
           keeps,
         ))
+
+    -- what is at the place, or that nothing is, is the answer
+    pub row_found : (o : Option Row) → o ≡ slice_get s.rows i → (x : Result Row SheetFault) → x ≡ ok_or o NotPublished
+        → Obeys order entails (RowOf i) (answer (λ r. RowAt (r.goal, r.boundary)) x) s s
+    row_found o e x is =
+        let P : Result Row SheetFault → Type 0 = λ y. Obeys order entails (RowOf i) (answer (λ r. RowAt (r.goal, r.boundary)) y) s s in
+        subst P (sym is)
+        (subst (λ (q : Option Row). P (ok_or q NotPublished)) (sym e)
+        (⊎_elim (λ (r, lt, some, read). rw some (row_there r lt read)) (λ (few, none). rw none (row_none few)) (slice_get_cases s.rows i).1))
 
   module _ (g : Goal) where
     pub boundary_goal : (l.TakesGoal g → ⊥) → Obeys order entails (Boundary g) (Err (Logic GoalNotTaken)) s s
@@ -127,13 +146,19 @@ module _ {K L : Type 0} (order : K → LabelOrder) (entails : L → Entailment) 
             (refused order entails (See u g) s (Kind NotAdmitted) (λ b keeps. inr (λ no. no taken, inr (λ no. no label, inl (never, refl)))))
 
         module _ (label : Label k u) (prime : JoinPrime k u) where
-          pub see_none : NoRow s.rows g → Obeys order entails (See u g) (Err NotPublished) s s
+          see_none : NoRow s.rows g → Obeys order entails (See u g) (Err NotPublished) s s
           see_none none =
               refused order entails (See u g) s NotPublished
               (λ b keeps. inr (λ no. no taken, inr (λ no. no label, inr (λ no. no prime, inl (unpublished k l b s.axioms s.rows keeps g none, refl)))))
 
+          -- a look-up that finds no row
+          pub see_unknown : (o : Option (Option ℕ)) → MatchOption o (NoRow s.rows g) (λ v. In {A = Row} (record { goal = g; boundary = v }) s.rows)
+              → (f : SheetFault) → Err f ≡ ok_or o NotPublished → Obeys order entails (See u g) (Err f) s s
+          see_unknown None none f is = subst (λ (y : Result (Option ℕ) SheetFault). Obeys order entails (See u g) (answer (λ _. Seen false) y) s s) (sym is) (see_none none)
+          see_unknown (Some v) row f is = absurd (Err-Ok is)
+
           -- the user's label against the boundary in the row
-          pub see_there : Lawful k → Monotone l → (v : Option ℕ) → In {A = Row} (record { goal = g; boundary = v }) s.rows
+          see_there : Lawful k → Monotone l → (v : Option ℕ) → In {A = Row} (record { goal = g; boundary = v }) s.rows
               → (r : Bool) → Iff (T r) (MatchOption v ⊥ (Under k u)) → Obeys order entails (See u g) (Ok (Seen r)) s s
           see_there laws monotone v row r says =
               accepted order entails (See u g) s (Seen r) s refl refl
@@ -146,3 +171,10 @@ module _ {K L : Type 0} (order : K → LabelOrder) (entails : L → Entailment) 
                 (r, (λ h. by.0 (says.0 h), λ h. says.1 (by.1 h)), refl),
                 keeps,
               ))
+
+          -- the same for the row that is found
+          pub see_found : Lawful k → Monotone l → (o : Option (Option ℕ)) → MatchOption o (NoRow s.rows g) (λ v. In {A = Row} (record { goal = g; boundary = v }) s.rows)
+              → (v : Option ℕ) → Ok v ≡ ok_or o NotPublished → (r : Bool) → Iff (T r) (MatchOption v ⊥ (Under k u)) → Obeys order entails (See u g) (Ok (Seen r)) s s
+          see_found laws monotone None none v is r says = absurd (Ok-Err is)
+          see_found laws monotone (Some w) row v is r says =
+              see_there laws monotone w row r (subst (λ (x : Option ℕ). Iff (T r) (MatchOption x ⊥ (Under k u))) (same_Ok is) says)

@@ -1,8 +1,8 @@
 -- The order of rows by their goals, and a row among those of the table.
 use Rattle.std.specs.Result.{result_ok}
-use Rattle.std.proofs.Common.{ap, length-take, Ok, Err, Result, IfErr, MatchResult, MatchOption, ◌≡◌, ℕ, ◌+◌, ◌<◌, ◌≤◌, ◌⊎◌, List, length, get_or, take, ◌∙◌, subst, ap₂, inl, inr, ⊎_elim, arith, length-take-le, get_or-take}
+use Rattle.std.proofs.Common.{ap, length-take, Ok, Err, Result, IfErr, MatchResult, MatchOption, ◌≡◌, ℕ, ◌+◌, ◌<◌, ◌≤◌, ◌⊎◌, List, length, get_or, take, subst, ap₂, inl, inr, ⊎_elim, arith, length-take-le}
 use native.Mathlib.Decide.{dec_lt}
-use Rattle.base.specs.Words.{Iff, In}
+use Rattle.base.specs.Words.{In}
 use Rattle.logics.specs.Entailment.{Goal}
 use Rattle.ordered.specs.Lists.{Ascending, Ranking, Level, Gap, opened}
 use Rattle.ordered.proofs.Lists.{ranking_by, get_or_in}

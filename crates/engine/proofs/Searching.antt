@@ -1,5 +1,5 @@
 -- The search over the table's axioms is the search over the book's.
-use Rattle.std.proofs.Common.{◌≡◌, ℕ, suc, ◌-◌, ◌/◌, ◌^◌, ◌<◌, ◌≤◌, List, [], ◌∷◌, ◌++◌, length, replicate, Some, None, Ok, Err, Option, sym, refl, ap, ◌∙◌, subst, inl, inr, ⊎_elim, arith, pow_pos}
+use Rattle.std.proofs.Common.{◌≡◌, ℕ, suc, ◌-◌, ◌/◌, ◌^◌, ◌<◌, ◌≤◌, List, [], ◌∷◌, ◌++◌, length, replicate, Some, None, Option, sym, refl, ap, ◌∙◌, subst, inl, inr, ⊎_elim, arith, pow_pos}
 use Rattle.std.specs.Option.{ok_or}
 use Rattle.base.specs.Bits.{Has}
 use Rattle.base.specs.Words.{Iff, In}
@@ -19,7 +19,7 @@ use Rattle.engine.specs.Keeps.{Keeps}
 use Rattle.engine.specs.Law.{SearchLeaves, buffers}
 use Rattle.engine.specs.Keeps.{answer}
 use Rattle.engine.specs.Obeys.{Finds}
-use Rattle.engine.proofs.Supporting.{enough, fits, goal_first, short_first}
+use Rattle.engine.proofs.Supporting.{enough, fits}
 use Rattle.engine.specs.declared.call.Answer.TheVariants.{Count}
 use Rattle.engine.proofs.Force.{all_of_book, more_of_book}
 

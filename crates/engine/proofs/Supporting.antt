@@ -1,5 +1,5 @@
 -- Asking for supports: the refusals in their order, the answer, and every place and byte that is left.
-use Rattle.std.proofs.Common.{◌≡◌, ℕ, ◌+◌, ◌-◌, ◌<◌, ◌≤◌, List, ◌++◌, length, replicate, Some, Ok, Err, Result, sym, refl, ap, ◌∙◌, subst, inl, inr, arith, length-append}
+use Rattle.std.proofs.Common.{◌≡◌, ℕ, ◌+◌, ◌-◌, ◌≤◌, List, ◌++◌, length, replicate, Some, Ok, Err, Result, refl, ap, ◌∙◌, inl, inr, arith, length-append}
 use native.Mathlib.Decide.{dec_lt}
 use lib.ListN.{length-replicate}
 use Rattle.labels.specs.Order.{LabelOrder}
@@ -7,7 +7,7 @@ use Rattle.logics.specs.Entailment.{Entailment, Goal, Askable}
 use Rattle.logics.specs.declared.Record.{Record}
 use Rattle.logics.specs.declared.LogicFault.TheVariants.{GoalNotTaken}
 use Rattle.supports.specs.Found.{Found}
-use Rattle.ordered.proofs.Lists.{ascending_fewer}
+use Rattle.ordered.proofs.Lists.{ascending_fewer, ascending_unique}
 use Rattle.ordered.specs.SetsLemmas.{before_ranking}
 use Rattle.engine.specs.declared.sheet.Sheet.{Sheet}
 use Rattle.engine.specs.declared.call.Call.TheVariants.{Supports}
@@ -18,7 +18,7 @@ use Rattle.engine.specs.Book.{Book}
 use Rattle.engine.specs.Sight.{AllSupports}
 use Rattle.engine.specs.Law.{MoreThan}
 use Rattle.engine.specs.Keeps.{answer}
-use Rattle.engine.specs.Obeys.{Holds, Obeys, Searches}
+use Rattle.engine.specs.Obeys.{Obeys, Searches}
 use Rattle.engine.proofs.Obeying.{refused, accepted}
 
 -- the two refusals that come before the search are not the one that comes after it
@@ -27,6 +27,11 @@ goal_first e = let z : ◌≡◌ {A = ℕ} 0 1 = cc in omega arith
 
 pub short_first : ShortArea ≡ MoreSupports → ⊥
 short_first e = let z : ◌≡◌ {A = ℕ} 0 1 = cc in omega arith
+
+-- a goal has its supports in one list
+pub supports_unique : (l : Entailment) (b : Book) (g : Goal) (ss ts : List ℕ) → AllSupports l b g ss → AllSupports l b g ts → ss ≡ ts
+supports_unique l b g ss ts is js =
+    ascending_unique before_ranking ss ts is.ascending js.ascending (λ s. (λ h. js.complete s (is.sound s h), λ h. is.complete s (js.sound s h)))
 
 module _ (k : LabelOrder) (l : Entailment) where
   -- where all supports found a place, there are not more than places

@@ -1,10 +1,9 @@
 -- Supports, boundary, rows, answer and book are determined by the book before the call.
-use Rattle.std.proofs.Common.{◌≡◌, ℕ, ◌-◌, Bool, true, false, T, List, [], ◌∷◌, ◌++◌, length, get_or, take, drop, replicate, Option, Ok, Err, Result, sym, refl, ap, ◌∙◌, subst, ap₂, inl, inr, take-append-drop}
+use Rattle.std.proofs.Common.{◌≡◌, ℕ, ◌-◌, Bool, true, false, T, List, ◌++◌, length, get_or, take, drop, replicate, Option, Ok, Err, Result, sym, refl, ap, ◌∙◌, subst, ap₂, inl, inr, take-append-drop}
 use Rattle.base.proofs.Checks.{first_unique, none_first}
 use Rattle.labels.specs.Order.{LabelOrder, Lawful}
 use Rattle.logics.specs.Entailment.{Entailment, Goal}
 use Rattle.ordered.proofs.Lists.{ascending_unique}
-use Rattle.ordered.specs.SetsLemmas.{before_ranking}
 use Rattle.engine.specs.declared.call.Call.{Call}
 use Rattle.engine.specs.declared.call.Call.TheVariants.{Enter, Withdraw, Relabel, Supports, Publish, Boundary, Row, See}
 use Rattle.engine.specs.declared.call.Answer.{Answer}
@@ -16,6 +15,7 @@ use Rattle.engine.specs.Law.{RowGoals, Buffers, front, back, SearchLeaves, Leave
 use Rattle.engine.specs.Determined.{Determined}
 use Rattle.engine.proofs.Rowing.{smaller_ranking}
 use Rattle.engine.proofs.Boundaries.{boundary_unique}
+use Rattle.engine.proofs.Supporting.{supports_unique}
 
 same_answer : (r q : Bool) → (T r → T q) → (T q → T r) → r ≡ q
 same_answer true true there back = refl
@@ -39,12 +39,8 @@ whole p w d e first rest =
     (halves w d.area e.area (ap (λ (x : Buffers). x.area) first) (ap (λ (x : Buffers). x.area) rest))
 
 module _ (k : LabelOrder) (laws : Lawful k) (l : Entailment) (b : Book) where
-  supports_unique : (g : Goal) (ss ts : List ℕ) → AllSupports l b g ss → AllSupports l b g ts → ss ≡ ts
-  supports_unique g ss ts is js =
-      ascending_unique before_ranking ss ts is.ascending js.ascending (λ s. (λ h. js.complete s (is.sound s h), λ h. is.complete s (js.sound s h)))
-
   counted_once : (g : Goal) (x y : Answer) → ((ss : List ℕ) × AllSupports l b g ss × (x ≡ Count (length ss))) → ((ss : List ℕ) × AllSupports l b g ss × (y ≡ Count (length ss))) → x ≡ y
-  counted_once g x y (ss, is, e) (ts, js, e') = e ∙ ap (λ (us : List ℕ). Count (length us)) (supports_unique g ss ts is js) ∙ sym e'
+  counted_once g x y (ss, is, e) (ts, js, e') = e ∙ ap (λ (us : List ℕ). Count (length us)) (supports_unique l b g ss ts is js) ∙ sym e'
 
   answered_unique : (c : Call) (x y : Answer) → Answered k l b c x → Answered k l b c y → x ≡ y
   answered_unique (Enter r a) x y e e' = e ∙ sym e'
@@ -74,7 +70,7 @@ module _ (k : LabelOrder) (laws : Lawful k) (l : Entailment) (b : Book) where
 
   search_leaves_unique : (g : Goal) (x : Result Answer SheetFault) (d e f : Buffers) → SearchLeaves k l b g x d e → SearchLeaves k l b g x d f → e ≡ f
   search_leaves_unique g (Ok (Count n)) d e f ((ss, is, left), bytes) ((ts, js, left'), bytes') =
-      let same : ss ≡ ts = supports_unique g ss ts is js in
+      let same : ss ≡ ts = supports_unique l b g ss ts is js in
       ap₂ (λ (us vs : List ℕ). record { places = us; area = vs })
       (left ∙ ap (λ (us : List ℕ). us ++ replicate (length d.places - length us) 0) same ∙ sym left') (bytes ∙ sym bytes')
   search_leaves_unique g (Err h) d e f (inl (_, left, bytes)) (inl (_, left', bytes')) =
@@ -102,7 +98,7 @@ module _ (k : LabelOrder) (laws : Lawful k) (l : Entailment) (b : Book) where
 
 pub determined : (k : LabelOrder) → Lawful k → (l : Entailment) → Determined k l
 determined k laws l = record {
-  supports = supports_unique k laws l;
+  supports = λ b g ss ts. supports_unique l b g ss ts;
   boundary = λ b g v w. boundary_unique k l b g laws v w;
   rows = rows_unique;
   answer = lawful_unique k laws l;

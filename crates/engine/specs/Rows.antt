@@ -1,5 +1,5 @@
 -- Rows of the published goals, in the order of their goals.
-use Rattle.std.specs.Prelude.{◌≡◌, ℕ, ◌+◌, ◌<◌, ◌≤◌, ◌⊎◌, List, length, take, ◌≢◌}
+use Rattle.std.specs.Prelude.{◌≡◌, ℕ, ◌+◌, ◌≤◌, ◌⊎◌, List, length, take, ◌≢◌}
 use Rattle.base.specs.Words.{Iff, In}
 use Rattle.logics.specs.Entailment.{Goal}
 use Rattle.ordered.specs.Lists.{Ascending}

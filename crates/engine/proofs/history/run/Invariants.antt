@@ -10,11 +10,8 @@ abbrev pub invariant-loop-i : goal.invariant-loop-i
 invariant-loop-i g l =
     ((m : Book)
     × RunTo (g.K.LabelKind.meaning l.initial.sheet.kind) (g.L.Logic.meaning l.initial.sheet.logic) blank (buffers l.initial.places l.initial.area)
-    (map (given_of (length l.initial.places) (length l.initial.area)) (take l.i l.calls)) (take l.i l.answers) (buffers l.places l.area) m
+    (map (given_of (length l.initial.places) (length l.initial.area)) (take l.i (take l.count l.calls))) (take l.i l.answers) (buffers l.places l.area) m
     × Holds g.K.LabelKind.meaning g.L.Logic.meaning l.sheet m)
     × (l.sheet.kind ≡ l.initial.sheet.kind)
     × (l.sheet.logic ≡ l.initial.sheet.logic)
-    × (length l.places ≡ length l.initial.places)
-    × (length l.area ≡ length l.initial.area)
-    × (length l.answers ≡ length l.initial.answers)
     × (drop l.i l.answers ≡ drop l.i l.initial.answers)

@@ -1,4 +1,4 @@
-use Rattle.std.proofs.Common.{◌≡◌, ◌<◌, ◌≤◌, ℕ, T, sym, refl, ◌⊎◌, List, length, None, Some, Option, MatchOption, inl, inr, arith, length-take-le}
+use Rattle.std.proofs.Common.{ℕ, T, sym, refl, List, None, Some, Option, MatchOption, inr, arith, length-take-le}
 use Rattle.std.specs.Option.{is_some}
 use Rattle.base.specs.Words.{In}
 use Rattle.logics.specs.Entailment.{Goal}

@@ -1,5 +1,4 @@
-use Rattle.std.specs.Result.{result_ok}
-use Rattle.std.proofs.Common.{◌<◌, List, length, get_or, None, Some, Option, MatchOption, sym, subst, ◌∙◌, ℕ}
+use Rattle.std.proofs.Common.{◌<◌, List, length, get_or, None, Option, MatchOption, sym, subst, ◌∙◌, ℕ}
 use Rattle.logics.specs.Entailment.{Goal}
 use Rattle.ordered.specs.Lists.{Level}
 use Rattle.engine.specs.declared.page.Row.{Row}

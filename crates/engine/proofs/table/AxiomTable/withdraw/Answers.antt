@@ -1,4 +1,4 @@
-use Rattle.std.proofs.Common.{◌∙◌, ap, length, length-set, arith}
+use Rattle.std.proofs.Common.{◌∙◌, ap, length, length-set}
 use Rattle.engine.specs.Pages.{withdrawn}
 use Rattle.engine.proofs.Paging.{change_at, no_page}
 use Rattle.arrayvec.proofs.ArrayVecLemmas.{items-with_items}
