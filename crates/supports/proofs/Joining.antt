@@ -5,13 +5,14 @@ use Rattle.ordered.specs.Lists.{Ascending, Level, Gap, opened}
 use Rattle.ordered.specs.Sets.{Before}
 use Rattle.ordered.proofs.Lists.{in_insert, get_or_in}
 use Rattle.ordered.proofs.Places.{ascending_gap, in_opened, ascending_opened}
-use Rattle.ordered.specs.SetsLemmas.{level_same, before_ranking}
+use Rattle.ordered.specs.Rankings.{level_same}
+use Rattle.ordered.specs.SetsLemmas.{before_total, before_ranking}
 use Rattle.supports.specs.Search.{Joined}
 
 -- a set that is level with a known one is that one
 pub joined_there : (known : List ℕ) (s i : ℕ) → Ascending Before known → i < length known → ((d : ℕ) → Level Before (get_or known i d) s) → Joined known s known
 joined_there known s i up within level =
-    let there : In s known = subst (λ (t : ℕ). In t known) (level_same (get_or known i 0) s (level 0)) (get_or_in known i 0 within) in
+    let there : In s known = subst (λ (t : ℕ). In t known) (level_same before_total (get_or known i 0) s (level 0)) (get_or_in known i 0 within) in
     record { members = λ t. (inr, ⊎_elim (λ e. subst (λ (x : ℕ). In x known) (sym e) there) (λ h. h)); ascending = up }
 
 pub joined_gap : (known : List ℕ) (s p : ℕ) → p ≤ length known → Ascending Before known → Gap Before known s p

@@ -6,4 +6,3 @@ pub mod Joining
 pub mod Looking
 pub mod Growing
 pub mod Branching
-pub mod Zeroing
