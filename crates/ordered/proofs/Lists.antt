@@ -108,12 +108,3 @@ module _ {A : Type 0} {R : A → A → Type 0} (order : Ranking R) where
             h),
       ))
       (within x (inl refl))
-
--- things are ranked by a key of theirs
-pub ranking_by : {A B : Type 0} {R : A → A → Type 0} (key : B → A) → Ranking R → Ranking (λ (a b : B). R (key a) (key b))
-ranking_by key order = record {
-  irreflexive = λ a. order.irreflexive (key a);
-  transitive = λ a b c. order.transitive (key a) (key b) (key c);
-  splits = λ a b c. order.splits (key a) (key b) (key c);
-  ranks = λ a b. order.ranks (key a) (key b);
-}

@@ -48,7 +48,7 @@ visit-requires g t c κs within =
           (
             record { few = inv.few; supports = inv.grown.supports },
             branch_earlier q _ out may support x c.with_place.result c.loop-x.allowed (inv.grown.keeps support split.known) split.apart both.0 both.1
-                (λ k. rw (c.with_place.ensures.within c.loop-x-test.true) (has_with out x k)) inv.allowed earlier inv.branches,
+                (λ k. rw (c.with_place.ensures.within (omega arith)) (has_with out x k)) inv.allowed earlier inv.branches,
           ),
         ),
       ),
@@ -67,14 +67,14 @@ loop-x-preserved g t c =
           let both = (has_and may support x).0 (w.if-contains.ensures.0 tt) in
           let (few, grown, done) = w.in_ok-known.ensures.visited in
           let next : (k : ℕ) → Iff (Has w.with_place.result k) (Has out k ⊎ (k ≡ x)) =
-          λ k. rw (w.with_place.ensures.within c.loop-x-test.true) (has_with out x k) in
+          λ k. rw (w.with_place.ensures.within (omega arith)) (has_with out x k) in
           rw (w.area-is, w.known-is, w.places-is, w.allowed-is)
           (record {
             area = w.visit.ensures.area ∙ inv.area;
             few = omega (arith, few);
             grown = grown_trans q inv.grown grown;
             branches = branches_more q _ _ out may support x w.with_place.result c.loop-x.allowed grown next inv.allowed done inv.branches;
-            allowed = rw (w.with_place-allowed.ensures.within c.loop-x-test.true) (allowed_more may support c.loop-x.allowed x both.0 both.1 inv.allowed);
+            allowed = rw (w.with_place-allowed.ensures.within (omega arith)) (allowed_more may support c.loop-x.allowed x both.0 both.1 inv.allowed);
           })
       | else-contains w ↦
           let none = λ (p : Has may x × Has support x). w.if-contains.ensures.1 ((has_and may support x).1 p) in
