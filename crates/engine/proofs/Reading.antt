@@ -18,7 +18,7 @@ use Rattle.engine.specs.Law.{Published, Smaller, RowGoals}
 use Rattle.engine.specs.Keeps.{ByGoal, Keeps}
 use Rattle.engine.specs.Obeys.{held, shown, Obeys}
 use Rattle.engine.proofs.Obeying.{refused, accepted}
-use Rattle.engine.proofs.Rowing.{smaller_ranking}
+use Rattle.engine.specs.GoalOrder.{smaller_ranking}
 use Rattle.engine.proofs.Boundaries.{LabelsTaken}
 use Rattle.engine.proofs.Sight.{sees_by}
 

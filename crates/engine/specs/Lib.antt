@@ -3,6 +3,7 @@ pub mod Book
 pub mod Sight
 pub mod Law
 pub mod Keeps
+pub mod GoalOrder
 pub mod Obeys
 pub mod Searched
 pub mod Widened

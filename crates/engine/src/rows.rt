@@ -2,23 +2,20 @@ ghost use Rattle.std.specs.Prelude.{◌≡◌, ◌+◌, ◌<◌, ◌≤◌, T, �
 ghost use Rattle.base.specs.Words.{Iff, In};
 ghost use Rattle.ordered.specs.Lists.{Ascending};
 ghost use Rattle.engine.specs.Keeps.{ByGoal};
-ghost use Rattle.std.proofs.Common.{rules};
+ghost use Rattle.engine.specs.GoalOrder.{row_ranking};
 
 use crate::page::Row;
 use ordered::{Ranked, insert, place_of};
+use std::cmp::Ordering;
 
 // Rows by their goals: by the first number, then by the second.
 impl Ranked for Row {
     ghost before = { ByGoal };
 
-    ghost ranking = { Prim.search rules };
+    ghost ranking = { row_ranking };
 
-    fn comes_before(self, other: Row) -> bool {
-        if self.goal.0 == other.goal.0 {
-            self.goal.1 < other.goal.1
-        } else {
-            self.goal.0 < other.goal.0
-        }
+    fn rank(self, other: Row) -> Ordering {
+        self.goal.cmp(&other.goal)
     }
 }
 
@@ -93,7 +90,7 @@ impl RowTable {
         match place_of(&self.rows[0..count], row) {
             Ok(_) => true,
             Err(place) => {
-                if insert(&mut self.rows, count, place, row) {
+                if let Ok(()) = insert(&mut self.rows, count, place, row) {
                     self.count = count + 1;
                     true
                 } else {
