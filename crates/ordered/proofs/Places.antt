@@ -1,6 +1,7 @@
 -- The place of a thing in an ascending list, and the list with the thing put in there.
 use Rattle.std.proofs.Common.{◌≡◌, ℕ, ◌+◌, ◌-◌, ◌<◌, ◌≤◌, ◌⊎◌, List, ◌∷◌, ◌++◌, length, get_or, take, drop, set, Ok, Err, Result, Ordering, Less, Equal, Greater, refl, sym, ap, ◌∙◌, subst, inl, inr, ⊎_elim, arith, MatchResult, IfErr}
 use Rattle.std.specs.Ordering.{ordering_index}
+use Rattle.std.specs.List.{insert}
 use Rattle.std.specs.List.Sorted.{IsNonDecreasingBy, IsSearchInRange, IsBinarySearchResult}
 use native.Mathlib.Decide.{ℕ_discrete}
 use lib.Seq.{paste}
@@ -83,9 +84,13 @@ module _ {A : Type 0} (R : A → A → Type 0) (xs : List A) (x : A) (p : ℕ) (
       let split : In y (take p xs ++ drop p xs) = rw take-append-drop h in
       ⊎_elim (λ g. inl (gap_below y g)) (λ g. inr (gap_above y g)) ((in_append y (take p xs) (drop p xs)).0 split)
 
+-- the members of a list with x put in are those that were, and x
+pub in_inserted : {A : Type 0} (xs : List A) (p : ℕ) (x y : A) → Iff (In y (insert xs p x)) ((y ≡ x) ⊎ In y xs)
+in_inserted xs p x y = rw take-append-drop at (in_insert y x (take p xs) (drop p xs))
+
 -- a list with x put into its gap ascends
 pub ascending_gap : {A : Type 0} {R : A → A → Type 0} → Ranking R → (xs : List A) (x : A) (p : ℕ) → p ≤ length xs → Gap R xs x p
-    → Ascending R xs → Ascending R (take p xs ++ (x ∷ drop p xs))
+    → Ascending R xs → Ascending R (insert xs p x)
 ascending_gap {A} {R} order xs x p within gap up =
     ascending_insert order x (take p xs) (drop p xs) (rw take-append-drop up) (gap_below R xs x p within gap) (gap_above R xs x p within gap)
 
@@ -100,27 +105,21 @@ module _ {A : Type 0} (xs : List A) (count place : ℕ) (x : A) (room : count < 
       let middle : take (count - place) (drop place xs) ≡ later = sym (drop-take place (count - place) xs) ∙ ap (λ (n : ℕ). drop place (take n xs)) whole in
       let more = take_more xs place x (omega arith) in
       let pasted : paste xs (place + 1) (drop place xs) (count - place) ≡ take place xs ++ (get_or xs place x ∷ (later ++ rest)) = rw (middle, end, more) (simp append_assoc) in
-      rw pasted (set_at (take place xs) _ (later ++ rest) x place (length-take-le place xs (omega arith)))
+      rw (pasted, take-take place count xs used, append_assoc) (set_at (take place xs) _ (later ++ rest) x place (length-take-le place xs (omega arith)))
 
-  length_front : length (take place xs ++ (x ∷ drop place (take count xs))) ≡ count + 1
-  length_front = simp (length-append, length-drop, length-take) (omega arith)
-
-  split : opened xs count place x ≡ (take place xs ++ (x ∷ drop place (take count xs))) ++ drop (count + 1) xs
-  split = simp append_assoc
+  long : length (insert (take count xs) place x) ≡ count + 1
+  long = simp (length-append, length-drop, length-take) (omega arith)
 
   -- in use are then the entries that were, and x in its place
-  pub take_opened : take (count + 1) (opened xs count place x) ≡ take place (take count xs) ++ (x ∷ drop place (take count xs))
-  take_opened =
-      rw (split, take-take place count xs used) (take_at (take place xs ++ (x ∷ drop place (take count xs))) (drop (count + 1) xs) (count + 1) length_front)
+  take_opened : take (count + 1) (opened xs count place x) ≡ insert (take count xs) place x
+  take_opened = take_at (insert (take count xs) place x) (drop (count + 1) xs) (count + 1) long
 
   pub length_opened : length (opened xs count place x) ≡ length xs
   length_opened = simp (length-append, length-drop, length-take) (omega arith)
 
   -- the members are those that were, and x
   pub in_opened : (y : A) → Iff (In y (take (count + 1) (opened xs count place x))) ((y ≡ x) ⊎ In y (take count xs))
-  in_opened y =
-      let both = in_insert y x (take place (take count xs)) (drop place (take count xs)) in
-      rw take_opened (rw take-append-drop at both)
+  in_opened y = rw take_opened (in_inserted (take count xs) place x y)
 
   pub ascending_opened : {R : A → A → Type 0} → Ranking R → Ascending R (take count xs) → Gap R (take count xs) x place
       → Ascending R (take (count + 1) (opened xs count place x))

@@ -1,5 +1,6 @@
 -- Lists in an order, and where a thing belongs in one.
 use Rattle.std.specs.Prelude.{ℕ, ◌+◌, ◌<◌, ◌≤◌, ◌⊎◌, List, [], ◌∷◌, ◌++◌, length, take, drop, slice_index_or}
+use Rattle.std.specs.List.{insert}
 use Rattle.std.specs.declared.cmp.Ordering.{Ordering}
 use Rattle.std.specs.declared.cmp.Ordering.TheVariants.{Less, Equal, Greater}
 
@@ -38,6 +39,6 @@ LaterOnes {A} R xs x p = (k : ℕ) (d : A) → p ≤ k → k < length xs → R x
 abbrev pub Gap : {A : Type 0} → (A → A → Type 0) → List A → A → ℕ → Type 0
 Gap R xs x p = FirstOnes R xs x p × LaterOnes R xs x p
 
--- x put in at `place` among the first `count` entries, those from there on moved up by one, over the entry at `count`
+-- x put in at `place` among the first `count` entries, over the entry at `count`
 abbrev pub opened : {A : Type 0} → List A → ℕ → ℕ → A → List A
-opened xs count place x = take place xs ++ (x ∷ (drop place (take count xs) ++ drop (count + 1) xs))
+opened xs count place x = insert (take count xs) place x ++ drop (count + 1) xs

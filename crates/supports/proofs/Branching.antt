@@ -7,11 +7,7 @@ use Rattle.base.specs.Words.{Iff}
 use Rattle.base.proofs.Sets.{has_minus, has_with, subset_lt}
 use Rattle.supports.specs.Asked.{Asked}
 use Rattle.supports.specs.Search.{Branch, Done, Branches, Grown}
-use Rattle.supports.proofs.Hitting.{branches_grow, branch_done}
-
--- the axioms of `may` that a branch by x may take
-abbrev pub Allowed : ℕ → ℕ → ℕ → ℕ → Type 0
-Allowed may s allowed x = (k : ℕ) → Iff (Has allowed k) (Has may k × (Has s k → k < x))
+use Rattle.supports.proofs.Hitting.{Allowed, branches_grow, branch_done}
 
 module _ (may s : ℕ) where
   pub allowed_none : may < 2 ^ 64 → s < 2 ^ 64 → Allowed may s (bit_and may (18446744073709551615 - s)) 0

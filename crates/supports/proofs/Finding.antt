@@ -4,10 +4,11 @@ use native.Mathlib.Decide.{ℕ_discrete}
 use lib.Bits.{bit_and}
 use Rattle.base.specs.Bits.{Has, Subset}
 use Rattle.base.specs.Words.{Iff, In}
-use Rattle.base.proofs.Sets.{has_or_not, has_zero, has_minus, same_set, some_place, subset_le}
+use Rattle.base.proofs.Sets.{has_zero, has_minus, same_set, subset_le}
 use Rattle.logics.specs.Entailment.{Monotone}
 use Rattle.supports.specs.Asked.{Asked, Yields, Support, SomeSupports, AllSupports}
 use Rattle.supports.specs.Search.{HitsAll, Done}
+use Rattle.supports.proofs.Lacking.{within_or_not}
 use Rattle.supports.proofs.Yielding.{yields_more}
 
 in_or_not : (s : ℕ) (known : List ℕ) → In s known ⊎ (In s known → ⊥)
@@ -29,14 +30,8 @@ module _ (q : Asked) (small : q.all < 2 ^ 64) where
   -- a different support has an axiom that s lacks
   differs : (s t : ℕ) → Support q s → Support q t → (s ≡ t → ⊥) → (i : ℕ) × Has t i × (Has s i → ⊥)
   differs s t is is' ne =
-      let minus = λ (i : ℕ). has_minus 64 t s i (support_small t is') (support_small s is) in
-      elim (some_place (bit_and t (2 ^ 64 - 1 - s))) [
-        | inl e ↦
-            absurd
-            (ne (support_within s t is is'
-            (λ i in_t. elim (has_or_not s i) [ inl in_s ↦ in_s | inr not_s ↦ absurd (has_zero i (subst (λ (x : ℕ). Has x i) e ((minus i).1 (in_t, not_s)))) ])))
-        | inr p ↦ let q = (minus p.0).0 p.1 in (p.0, q.0, q.1)
-      ]
+      elim (within_or_not t s (support_small t is') (support_small s is))
+      [ inl within ↦ absurd (ne (support_within s t is is' within)) | inr lacking ↦ lacking ]
 
   -- the axioms outside an unknown support hit every known one, so they cannot all be left out
   missed : (known : List ℕ) → SomeSupports q known → Done q known 0 q.all

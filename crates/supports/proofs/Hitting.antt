@@ -20,6 +20,10 @@ last_place s (suc n) (k, h, l) =
           (x, p, omega arith, λ i a b. let ni : i ≡ n → ⊥ = λ e. none (subst (λ (j : ℕ). Has s j) e a) in top i a (omega arith))
     ]
 
+-- the axioms of `may` that a branch by x may take
+abbrev pub Allowed : ℕ → ℕ → ℕ → ℕ → Type 0
+Allowed may s allowed x = (k : ℕ) → Iff (Has allowed k) (Has may k × (Has s k → k < x))
+
 module _ (q : Asked) where
   pub blocks_more : (h k : ℕ) → Subset h k → Blocks q h → Blocks q k
   blocks_more h k sub blocks t inside apart = blocks t inside (λ i p q. apart i p (sub i q))
@@ -89,7 +93,7 @@ module _ (q : Asked) where
 
   -- what a branch may take for done: the region's own, and the branches before it
   pub branch_earlier : (known : List ℕ) (out may s x next allowed : ℕ) → In s known → Apart s out → Has may x → Has s x
-      → ((k : ℕ) → Iff (Has next k) (Has out k ⊎ (k ≡ x))) → ((k : ℕ) → Iff (Has allowed k) ((Has may k) × (Has s k → k < x)))
+      → ((k : ℕ) → Iff (Has next k) (Has out k ⊎ (k ≡ x))) → Allowed may s allowed x
       → Earlier q known out may → Branches q known out may s x → Earlier q known next allowed
   branch_earlier known out may s x next allowed is_Known apart in_may in_s is_next is_allowed earlier branches e h in_next without hits =
       ⊎_elim from_out from_x ((is_next e).0 in_next)
@@ -115,7 +119,7 @@ module _ (q : Asked) where
 
   -- a branch that is done, as one of the branches
   pub branch_done : (known : List ℕ) (out may s x next allowed : ℕ) → ((k : ℕ) → Iff (Has next k) (Has out k ⊎ (k ≡ x)))
-      → ((k : ℕ) → Iff (Has allowed k) ((Has may k) × (Has s k → k < x))) → Done q known next allowed
+      → Allowed may s allowed x → Done q known next allowed
       → (h : ℕ) → Branch out may s x h → HitsAll h known → Blocks q h
   branch_done known out may s x next allowed is_next is_allowed done h branch =
       done h

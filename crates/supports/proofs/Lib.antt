@@ -1,3 +1,4 @@
+pub mod Lacking
 pub mod Yielding
 pub mod Hitting
 pub mod Finding

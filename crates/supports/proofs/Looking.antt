@@ -6,9 +6,10 @@ use lib.Count.{ones}
 use Rattle.std.proofs.lemmas.Nat.{zero_from_ones, ones_le_self}
 use Rattle.base.specs.Bits.{Has, Subset}
 use Rattle.base.specs.Words.{Iff, In}
-use Rattle.base.proofs.Sets.{has_and, has_or, has_or_left, has_or_right, has_zero, some_place, has_without, has_or_not, has_minus, same_set, subset_le}
+use Rattle.base.proofs.Sets.{has_and, has_or, has_or_left, has_or_right, has_zero, some_place, has_without, same_set, subset_le}
 use Rattle.base.proofs.Ones.{ones_iff}
 use Rattle.ordered.proofs.Lists.{in_append}
+use Rattle.supports.proofs.Lacking.{within_or_not}
 use Rattle.supports.specs.Search.{Apart, Hits, HitsAll, Spare, Looked, Glanced}
 
 -- a set of more than one place has another beside each of its places
@@ -94,17 +95,5 @@ module _ (known : List ℕ) (s out : ℕ) (unhit unhit' : Option ℕ) (sole sole
 -- an axiom that is not among the sole ones
 pub not_sole : (sole out : ℕ) → out < 2 ^ 64 → Subset sole out → (sole ≡ out → ⊥) → (e : ℕ) × Has out e × (Has sole e → ⊥)
 not_sole sole out small inside differ =
-    elim (some_place (bit_and out (2 ^ 64 - 1 - sole))) [
-      | inl none ↦
-          absurd
-          (differ
-          (same_set sole out
-          (λ i. (
-            inside i,
-            λ p. elim (has_or_not sole i) [ inl q ↦ q | inr q ↦ absurd (has_zero i (subst (λ (x : ℕ). Has x i) none ((minus i).1 (p, q)))) ],
-          ))))
-      | inr p ↦ let q = (minus p.0).0 p.1 in (p.0, q.0, q.1)
-    ]
-  where
-    minus : (i : ℕ) → Iff (Has (bit_and out (2 ^ 64 - 1 - sole)) i) (Has out i × (Has sole i → ⊥))
-    minus i = has_minus 64 out sole i small (omega (arith, subset_le sole out inside))
+    elim (within_or_not out sole small (omega (arith, subset_le sole out inside)))
+    [ inl within ↦ absurd (differ (same_set sole out (λ i. (inside i, within i)))) | inr lacking ↦ lacking ]

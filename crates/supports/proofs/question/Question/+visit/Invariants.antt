@@ -1,7 +1,7 @@
 use Rattle.std.proofs.Common.{◌≡◌, ◌≤◌, length, take}
 use Rattle.supports.specs.Asked.{asked}
 use Rattle.supports.specs.Search.{Grown, Branches}
-use Rattle.supports.proofs.Branching.{Allowed}
+use Rattle.supports.proofs.Hitting.{Allowed}
 use Rattle.supports.proofs.question.Question.+visit.Given as goal
 
 abbrev pub decreases-visit : goal.decreases-visit
