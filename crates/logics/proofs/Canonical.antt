@@ -6,11 +6,10 @@ use Rattle.base.specs.Words.{In}
 use Rattle.base.proofs.Tests.{eqb_iff, ltb_iff}
 use Rattle.logics.specs.Drawing.{in_row, row, drawn_concept, partner, drawn_role, DrawnAt, AllDrawn}
 use Rattle.logics.specs.Plan.{cell}
-use Rattle.logics.specs.Entailment.{Goal}
+use Rattle.logics.specs.Entailment.{Each, Goal}
 use Rattle.logics.specs.Interpretation.{Interpretation, Satisfies, Entails}
 use Rattle.logics.specs.WorkArea.{Ticked, Settled}
 use Rattle.logics.specs.declared.Record.{Record}
-use Rattle.logics.specs.Marked.{Each}
 
 both : (a b : Bool) → T a → T b → T (a && b)
 both true b s t = t

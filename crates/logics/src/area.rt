@@ -1,17 +1,6 @@
 // The work area: bytes that are cleared, and then ticked one by one.
-ghost use Rattle.std.specs.Prelude.{◌≡◌, ◌<◌, ◌≤◌, true, false, length, slice_index, slice_set};
-ghost use Rattle.logics.specs.Entailment.{Scrubbed};
+ghost use Rattle.std.specs.Prelude.{◌≡◌, ◌<◌, true, false, length, slice_index, slice_set};
 ghost use Rattle.logics.specs.WorkArea.{Ticked, Inferred, Settled};
-
-// Makes the first bytes zero.
-pub(crate) fn clear(area: &mut [u8], bytes: usize)
-    requires { bytes ≤ length area.old }
-    ensures { Scrubbed bytes area.old area.new }
-{
-    for i in 0..bytes {
-        area[i] = 0;
-    }
-}
 
 // Ticks a cell, and says whether it was blank.
 pub(crate) fn tick(area: &mut [u8], place: usize) -> bool

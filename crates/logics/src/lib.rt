@@ -9,15 +9,17 @@ ghost use Rattle.logics.specs.declared.LogicFault.TheVariants.{RecordNotTaken, G
 
 mod area;
 mod el;
+mod form;
 mod links;
-mod marks;
+mod marked;
 mod saturate;
 
 pub use el::El;
+pub use form::{Form, UnknownForm};
 pub use links::Links;
 
-/// An axiom: its form, and three numbers that the form reads.
-#[derive(Clone, Copy)]
+/// An axiom as it is written: the number of its form, and three numbers that the form reads.
+#[derive(Clone, Copy, PartialEq, Eq, Debug)]
 pub struct Record {
     pub form: u16,
     pub a: u16,
@@ -28,9 +30,9 @@ pub struct Record {
 /// Why a logic was not made, or did not take a record or a goal.
 #[derive(Clone, Copy, PartialEq, Eq, Debug)]
 pub enum LogicFault {
-    SizeOutOfLimits,
-    RecordNotTaken,
-    GoalNotTaken,
+    SizeOutOfLimits = 7,
+    RecordNotTaken = 9,
+    GoalNotTaken = 13,
 }
 
 impl LogicFault {
@@ -38,11 +40,7 @@ impl LogicFault {
     pub fn number(self) -> u32
         ensures { result ≡ numbered self }
     {
-        match self {
-            LogicFault::SizeOutOfLimits => 7,
-            LogicFault::RecordNotTaken => 9,
-            LogicFault::GoalNotTaken => 13,
-        }
+        self as u32
     }
 }
 
@@ -73,11 +71,10 @@ pub trait Logic: Drop {
 pub fn take_record<L: Logic>(logic: &L, record: Record) -> Result<(), LogicFault>
     ensures { MatchResult result (λ _. (L.meaning logic.now).TakesRecord «record») (λ f. (f ≡ RecordNotTaken) × ((L.meaning logic.now).TakesRecord «record» → ⊥)) }
 {
-    if logic.takes_record(record) {
-        Ok(())
-    } else {
-        Err(LogicFault::RecordNotTaken)
-    }
+    logic
+        .takes_record(record)
+        .then_some(())
+        .ok_or(LogicFault::RecordNotTaken)
 }
 
 /// Refuses a goal that the logic does not take.
