@@ -1,5 +1,5 @@
 -- How a logic lays a question out in its work area: each cell stands for a goal.
-use Rattle.std.specs.Prelude.{◌≡◌, ℕ, ◌+◌, ◌*◌, ◌/◌, ◌%◌, ◌<◌, ◌≤◌, Bool, T, List, drop, slice_index}
+use Rattle.std.specs.Prelude.{◌≡◌, ℕ, ◌+◌, ◌*◌, ◌/◌, ◌%◌, ◌<◌, ◌≤◌, Bool, T, List, slice_index}
 use Rattle.base.specs.Words.{Iff}
 use Rattle.logics.specs.El.{el}
 use Rattle.logics.specs.Entailment.{Each, Entailment, Goal}
@@ -38,10 +38,6 @@ module _ (p : Plan) where
   -- no cell is ticked
   abbrev pub Blank : List ℕ → Type 0
   Blank cells = (k : ℕ) → k < p.logic.bytes → slice_index cells k ≡ 0
-
-  -- the bytes behind the cells are as they were
-  abbrev pub Untouched : List ℕ → List ℕ → Type 0
-  Untouched before after = drop p.logic.bytes after ≡ drop p.logic.bytes before
 
   -- if only cells were ticked that may be, then so it is
   abbrev pub KeptSound : List Record → Goal → List ℕ → List ℕ → Type 0

@@ -2,7 +2,7 @@
 ghost use Rattle.std.specs.Prelude.{◌≡◌, ◌≤◌, T, List, length};
 ghost use Rattle.base.specs.Words.{Iff};
 ghost use Rattle.logics.specs.Entailment.{Each, Goal, Monotone};
-ghost use Rattle.logics.specs.Plan.{Plan, Answered, Begun, Blank, KeptSound, Ready, Round, Laid, Untouched};
+ghost use Rattle.logics.specs.Plan.{Plan, Answered, Begun, Blank, KeptSound, Ready, Round, Laid};
 ghost use Rattle.logics.specs.declared.Record.{Record as Axiom};
 
 use crate::area::tick;
@@ -54,7 +54,6 @@ fn takes_all<S: Saturates>(logic: &S, given: &Marked) -> bool
 fn start<S: Saturates>(logic: &S, goal: (u32, u32), area: &mut [u8])
     requires posed { (S.plan logic.now).logic.TakesGoal goal }
     requires wide { (S.plan logic.now).logic.bytes ≤ length area.old }
-    ensures others { Untouched (S.plan logic.now) area.old area.new }
     ensures begun { Begun (S.plan logic.now) goal area.new }
     ensures sound { (rs : List Axiom) → KeptSound (S.plan logic.now) rs goal area.old area.new }
 {
@@ -68,8 +67,7 @@ fn reach<S: Saturates>(logic: &S, given: &Marked, goal: (u32, u32), area: &mut [
     requires ready { Ready (S.plan logic.now).logic given.now (length area.old) }
     requires posed { (S.plan logic.now).logic.TakesGoal goal }
     requires blank { Blank (S.plan logic.now) area.old }
-    ensures answered { Answered (S.plan logic.now) given.now goal result }
-    ensures others { Untouched (S.plan logic.now) area.old area.new }
+    ensures { Answered (S.plan logic.now) given.now goal result }
 {
     start(logic, goal, area);
     let place = logic.place(goal);
@@ -102,13 +100,13 @@ impl<S: Saturates> Logic for S {
         let Some(given) = Marked::new(records, marks) else {
             return false;
         };
-        let bytes = self.cells();
-        if bytes > area.len() || !self.poses(goal) || !takes_all(self, &given) {
+        if self.cells() > area.len() || !self.poses(goal) || !takes_all(self, &given) {
             return false;
         }
-        area[..bytes].fill(0);
-        let found = reach(self, &given, goal, area);
-        area[..bytes].fill(0);
+        let cells = &mut area[..self.cells()];
+        cells.fill(0);
+        let found = reach(self, &given, goal, cells);
+        cells.fill(0);
         found
     }
 }
