@@ -15,7 +15,7 @@ use crate::marked::Marked;
 use crate::saturate::Saturates;
 use crate::{Form, LogicFault, Record};
 
-// The axioms of a round, and those of them that give partners.
+// The axioms of a round, and those of form 3 among them.
 #[derive(Drop)]
 struct Axioms<'a> {
     all: Marked<'a>,
@@ -174,7 +174,7 @@ impl Saturates for El {
         (self.at((x, 0)), self.at((x, x)))
     }
 
-    fn round(&self, given: &Marked, _goal: (u32, u32), area: &mut [u8]) -> bool {
+    fn round(&self, given: &Marked, area: &mut [u8]) -> bool {
         let axioms = Axioms::new(given);
         let mut changed = false;
         for x in 0..self.concepts as usize {

@@ -60,7 +60,7 @@ impl Saturates for Links {
         (goal.0 as usize, goal.0 as usize)
     }
 
-    fn round(&self, given: &Marked, _goal: (u32, u32), area: &mut [u8]) -> bool {
+    fn round(&self, given: &Marked, area: &mut [u8]) -> bool {
         let mut changed = false;
         for link in given.iter() {
             let (from, to) = (link.a as usize, link.b as usize);

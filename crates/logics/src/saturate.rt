@@ -33,10 +33,9 @@ pub(crate) trait Saturates: Drop {
         ensures { result ≡ (plan self.now).firsts goal };
 
     // Ticks what follows from the cells that are ticked, and says whether there was any.
-    fn round(&self, given: &Marked, goal: (u32, u32), area: &mut [u8]) -> bool
-        requires ready { Ready (plan self.now).logic given.now (length area.old) }
-        requires posed { (plan self.now).logic.TakesGoal goal }
-        ensures { Round (plan self.now) given.now goal area.old area.new result };
+    fn round(&self, given: &Marked, area: &mut [u8]) -> bool
+        requires { Ready (plan self.now).logic given.now (length area.old) }
+        ensures { (g : Goal) → (plan self.now).logic.TakesGoal g → Round (plan self.now) given.now g area.old area.new result };
 
     ghost laid: { (s : Self) (g : Goal) → (plan s).logic.TakesGoal g → Laid (plan s) g };
 
@@ -72,7 +71,7 @@ fn reach<S: Saturates>(logic: &S, given: &Marked, goal: (u32, u32), area: &mut [
     start(logic, goal, area);
     let place = logic.place(goal);
     while area[place] == 0 {
-        if !logic.round(given, goal, area) {
+        if !logic.round(given, area) {
             return false;
         }
     }

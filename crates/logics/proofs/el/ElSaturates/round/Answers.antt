@@ -15,4 +15,4 @@ loop-x-preserved c =
 pub returns : goal.returns
 returns c =
     let n = c.args.self.now.concepts in
-    tick_weaker (λ cells all begun. complete n cells c.args.given.now c.args._goal c.requires.posed.0 begun.0 begun.1 (λ y lt. all y (omega (arith, lt)))) c.loop-x.invariant
+    λ g posed. tick_weaker (λ cells all begun. complete n cells c.args.given.now g posed.0 begun.0 begun.1 (λ y lt. all y (omega (arith, lt)))) c.loop-x.invariant
