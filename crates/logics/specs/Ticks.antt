@@ -1,14 +1,15 @@
 -- Cells that are ticked, one after another.
-use Rattle.std.specs.Prelude.{◌≡◌, ℕ, zero, suc, ◌<◌, ◌≤◌, Bool, true, false, ◌||◌, ◌≢◌, List, [], ◌∷◌, length, slice_index, slice_set, refl}
+use Rattle.std.specs.Prelude.{cond, ◌==◌, ◌≡◌, ℕ, ◌<◌, ◌≤◌, Bool, true, false, ◌||◌, ◌≢◌, List, length, slice_index, slice_set, refl}
 use Rattle.std.proofs.Common.{sym, ap, subst, ◌∙◌, arith, get_or-set_same, get_or-set_other}
+use Rattle.std.proofs.lemmas.List.Sums.{sum_by-set}
 use Rattle.std.proofs.Math.Decide.{ℕ_discrete}
 use Rattle.std.proofs.lemmas.Bool.{true≢false, false≢true}
 use Rattle.logics.specs.WorkArea.{Ticked, blanks, Inferred, Settled, Sound, Ticking}
 
 blanks_tick : (l : List ℕ) (k : ℕ) → k < length l → slice_index l k ≡ 0 → blanks (slice_set l k 1) < blanks l
-blanks_tick [] k lt e = absurd (omega arith)
-blanks_tick (x ∷ xs) zero lt e = rw e (omega arith)
-blanks_tick (x ∷ xs) (suc k) lt e = omega (arith, blanks_tick xs k (omega arith) e)
+blanks_tick l k lt e =
+    let moved = sum_by-set (λ x. cond (x == 0) 1 0) l k 1 0 lt in
+    omega (arith, rw e at moved)
 
 kept_tick : (l : List ℕ) (k j : ℕ) → k < length l → Ticked l j → Ticked (slice_set l k 1) j
 kept_tick l k j lt h =
