@@ -47,6 +47,7 @@ const AXIOMS: [Record; 5] = [
     },
 ];
 
+// kept: an array beside the axioms, since the logic is asked about a slice of records
 const SAYINGS: [&str; 5] = [
     "Every wax ribbon is a ribbon.",
     "Every wax ribbon is a wax thing.",

@@ -54,7 +54,7 @@ impl El {
         }
     }
 
-    // The cell at a row and a column.
+    // The cell at a row and a column. Kept a pair: a struct would be made at each call and taken apart here alone.
     fn at(&self, place: (usize, usize)) -> usize
         requires { InGrid self.now.concepts place }
         ensures is { result ≡ cell self.now.concepts place }

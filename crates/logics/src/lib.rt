@@ -19,6 +19,7 @@ pub use form::{Form, UnknownForm};
 pub use links::Links;
 
 /// An axiom as it is written: the number of its form, and three numbers that the form reads.
+// kept: `form` is a number and not a `Form`, as a record may be written with any number
 #[derive(Clone, Copy, PartialEq, Eq, Debug)]
 pub struct Record {
     pub form: u16,
@@ -45,6 +46,7 @@ impl LogicFault {
 }
 
 /// A logic, by its meaning: the records and goals that it takes, the bytes that it works in, and what follows.
+// kept: a goal is a pair of numbers, and records come beside the bits of the marked ones, as the layers above hold them
 pub trait Logic: Drop {
     ghost meaning: { Self → Entailment };
 
@@ -71,19 +73,14 @@ pub trait Logic: Drop {
 pub fn take_record<L: Logic>(logic: &L, record: Record) -> Result<(), LogicFault>
     ensures { MatchResult result (λ _. (L.meaning logic.now).TakesRecord «record») (λ f. (f ≡ RecordNotTaken) × ((L.meaning logic.now).TakesRecord «record» → ⊥)) }
 {
-    logic
-        .takes_record(record)
-        .then_some(())
-        .ok_or(LogicFault::RecordNotTaken)
+    let taken = logic.takes_record(record);
+    taken.then_some(()).ok_or(LogicFault::RecordNotTaken)
 }
 
 /// Refuses a goal that the logic does not take.
 pub fn take_goal<L: Logic>(logic: &L, goal: (u32, u32)) -> Result<(), LogicFault>
     ensures { MatchResult result (λ _. (L.meaning logic.now).TakesGoal goal) (λ f. (f ≡ GoalNotTaken) × ((L.meaning logic.now).TakesGoal goal → ⊥)) }
 {
-    if logic.takes_goal(goal) {
-        Ok(())
-    } else {
-        Err(LogicFault::GoalNotTaken)
-    }
+    let taken = logic.takes_goal(goal);
+    taken.then_some(()).ok_or(LogicFault::GoalNotTaken)
 }

@@ -39,7 +39,7 @@ pub fn ask_links(
 
 #[cfg(test)]
 mod tests {
-    use logics::{El, Links, Logic, LogicFault, Record, take_goal, take_record};
+    use logics::{El, Form, Links, Logic, LogicFault, Record, UnknownForm, take_goal, take_record};
     use std::process::Abort;
     use std::test::Fail;
 
@@ -310,6 +310,13 @@ mod tests {
         assert!(rt; El::new(0, 0).is_err() && El::new(129, 0).is_err() && El::new(1, 33).is_err());
         assert!(rt; Links::new(0).is_err() && Links::new(129).is_err());
         Ok(())
+    }
+
+    #[test]
+    fn forms(rt: HostRuntime) {
+        assert_eq!(rt; Form::try_from(4), Ok(Form::Source));
+        assert_eq!(rt; Form::try_from(9), Err(UnknownForm(9)));
+        assert_eq!(rt; u16::from(Form::Both), 2);
     }
 
     #[test]
