@@ -6,10 +6,10 @@ use Rattle.std.proofs.Math.Facts.{and_yes, yes_and, or_yes}
 use Rattle.base.specs.Words.{In}
 use Rattle.base.proofs.Tests.{eqb_iff, ltb_iff}
 use Rattle.logics.specs.Drawing.{in_row, row, drawn_concept, partner, drawn_role, DrawnAt, AllDrawn}
-use Rattle.logics.specs.Plan.{cell}
+use Rattle.logics.specs.Plan.{SettledAt, cell}
 use Rattle.logics.specs.Entailment.{Each, Goal}
 use Rattle.logics.specs.Interpretation.{Interpretation, Satisfies, Entails}
-use Rattle.logics.specs.WorkArea.{Ticked, Settled}
+use Rattle.logics.specs.WorkArea.{Ticked}
 use Rattle.logics.specs.declared.Record.{Record}
 
 yes_or_left : (a b : Bool) → T a → T (a || b)
@@ -23,7 +23,7 @@ yes_or_right false b t = t
 -- what a record r of form 4 asks of the row of x, given one of form 3
 abbrev pub Pulled : ℕ → ℕ → Record → Record → List ℕ → Type 0
 Pulled n x r p cells =
-    p.form ≡ 3 → p.b ≡ r.a → Settled (cell n (x, p.a)) (cell n (p.c, r.b)) (cell n (x, r.c)) cells
+    p.form ≡ 3 → p.b ≡ r.a → SettledAt n (x, p.a) (p.c, r.b) (x, r.c) cells
 
 module _ (n : ℕ) (cells : List ℕ) where
   pub row_drawn : (x : ℕ) → x < n → Ticked cells (cell n (x, 0)) → T (row n cells x)
@@ -80,7 +80,7 @@ module _ (n : ℕ) (cells : List ℕ) where
           source = λ _ y t _. absurd (never (and_yes _ _ t).0);
         }
 
-    pub lies_drawn : r.form ≡ 1 → Settled (cell n (x, r.a)) (cell n (x, r.a)) (cell n (x, r.b)) cells → DrawnAt n rs x r cells
+    pub lies_drawn : r.form ≡ 1 → SettledAt n (x, r.a) (x, r.a) (x, r.b) cells → DrawnAt n rs x r cells
     lies_drawn form settled =
         record {
           lies = λ _ t. let a = drawn_ticked r.a x t in concept_drawn r.b x (drawn_row r.a x t) (settled a a);
@@ -89,7 +89,7 @@ module _ (n : ℕ) (cells : List ℕ) where
           source = λ f. absurd (omega arith);
         }
 
-    pub both_drawn : r.form ≡ 2 → Settled (cell n (x, r.a)) (cell n (x, r.b)) (cell n (x, r.c)) cells → DrawnAt n rs x r cells
+    pub both_drawn : r.form ≡ 2 → SettledAt n (x, r.a) (x, r.b) (x, r.c) cells → DrawnAt n rs x r cells
     both_drawn form settled =
         record {
           lies = λ f. absurd (omega arith);
@@ -98,7 +98,7 @@ module _ (n : ℕ) (cells : List ℕ) where
           source = λ f. absurd (omega arith);
         }
 
-    pub partner_drawn : r.form ≡ 3 → In r rs → r.c < n → Settled (cell n (x, r.a)) (cell n (x, r.a)) (cell n (r.c, 0)) cells → Settled (cell n (x, r.a)) (cell n (x, r.a)) (cell n (r.c, r.c)) cells → DrawnAt n rs x r cells
+    pub partner_drawn : r.form ≡ 3 → In r rs → r.c < n → SettledAt n (x, r.a) (x, r.a) (r.c, 0) cells → SettledAt n (x, r.a) (x, r.a) (r.c, r.c) cells → DrawnAt n rs x r cells
     partner_drawn form given lt top own =
         record {
           lies = λ f. absurd (omega arith);

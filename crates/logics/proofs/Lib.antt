@@ -1,4 +1,3 @@
-pub mod Scrubs
 pub mod Rounds
 pub mod Canonical
 pub mod Walks

@@ -5,7 +5,7 @@ use Rattle.logics.specs.El.{el}
 use Rattle.logics.specs.Entailment.{Each, Entailment, Goal}
 use Rattle.logics.specs.Interpretation.{Entails}
 use Rattle.logics.specs.Links.{links}
-use Rattle.logics.specs.WorkArea.{Ticked, Sound, Ticking}
+use Rattle.logics.specs.WorkArea.{Ticked, Settled, Sound, Ticking}
 use Rattle.logics.specs.declared.Record.{Record}
 
 -- a logic, with its layout of a question
@@ -80,6 +80,15 @@ Entailed n rs k = Entails rs (k / n, k % n)
 -- rules of el were tried on the cells; if no cell was ticked, then Done holds of them
 abbrev pub Tried : ℕ → List Record → (List ℕ → Type 0) → List ℕ → List ℕ → Bool → Type 0
 Tried n rs = Ticking (n * n) (Entailed n rs)
+
+-- the cell at k is ticked if those at p and q are
+abbrev pub SettledAt : ℕ → Goal → Goal → Goal → List ℕ → Type 0
+SettledAt n p q k = Settled (cell n p) (cell n q) (cell n k)
+
+-- the rule that k follows from p and q was tried
+abbrev pub Derived : ℕ → Goal → Goal → Goal → List ℕ → List ℕ → Bool → Type 0
+Derived n p q k before after changed =
+    (rs : List Record) → (Entails rs p → Entails rs q → Entails rs k) → Tried n rs (SettledAt n p q k) before after changed
 
 -- the cell at a row and a column stands for the goal of the two
 abbrev pub el_plan : ℕ → ℕ → Plan

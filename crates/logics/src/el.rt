@@ -1,12 +1,9 @@
 // Concepts and roles: what lies in what.
-ghost use Rattle.std.specs.Prelude.{◌≡◌, ◌*◌, ◌<◌, ◌≤◌, ◌==◌, List, filter, length, MatchResult};
+ghost use Rattle.std.specs.Prelude.{◌≡◌, ◌*◌, ◌<◌, ◌≤◌, ◌==◌, filter, length, MatchResult};
 ghost use Rattle.base.specs.Words.{In};
 ghost use Rattle.logics.specs.Drawing.{DrawnAt, AllDrawn};
 ghost use Rattle.logics.specs.El.{el, ElLimits};
-ghost use Rattle.logics.specs.Plan.{InGrid, Ready, Tried, cell, el_plan};
-ghost use Rattle.logics.specs.Interpretation.{Entails};
-ghost use Rattle.logics.specs.WorkArea.{Settled};
-ghost use Rattle.logics.specs.declared.Record.{Record as Axiom};
+ghost use Rattle.logics.specs.Plan.{Derived, InGrid, Ready, Tried, cell, el_plan};
 ghost use Rattle.logics.specs.declared.LogicFault.TheVariants.{SizeOutOfLimits};
 ghost use Rattle.logics.specs.Entailed.{el_laid, entails_more};
 
@@ -75,7 +72,7 @@ impl El {
         requires first { InGrid self.now.concepts first }
         requires second { InGrid self.now.concepts second }
         requires third { InGrid self.now.concepts third }
-        ensures { (rs : List Axiom) → (Entails rs first → Entails rs second → Entails rs third) → Tried self.now.concepts rs (Settled (cell self.now.concepts first) (cell self.now.concepts second) (cell self.now.concepts third)) area.old area.new result }
+        ensures { Derived self.now.concepts first second third area.old area.new result }
     {
         let p = self.at(first);
         let q = self.at(second);

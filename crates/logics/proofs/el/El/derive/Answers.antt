@@ -3,4 +3,5 @@ use Rattle.logics.specs.Entailed.{derive_one}
 use Rattle.logics.proofs.el.El.derive.Goals as goal
 
 pub returns : goal.returns
-returns c = λ rs step. derive_one rs _ c.args.first c.args.second c.args.third c.requires.first c.requires.second c.requires.third c.requires.wide step (search rules) (search rules)
+returns c =
+    derive_one _ c.args.first c.args.second c.args.third c.requires.first c.requires.second c.requires.third c.requires.wide (search rules) (search rules)
