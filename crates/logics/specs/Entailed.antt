@@ -1,7 +1,8 @@
 -- What follows in el, step by step, and the cells that stand for it.
-use Rattle.std.specs.Prelude.{◌≡◌, ℕ, ◌*◌, ◌/◌, ◌%◌, ◌<◌, ◌≤◌, Bool, true, false, T, List, length, refl}
+use Rattle.std.specs.Prelude.{◌≡◌, ℕ, ◌*◌, ◌/◌, ◌%◌, ◌<◌, ◌≤◌, Bool, T, List, length, refl}
 use Rattle.std.proofs.Common.{subst, arith}
 use Rattle.std.proofs.Math.Arith.{digits_lt, digits_div, digits_mod}
+use Rattle.std.specs.Bool.{MatchBool}
 use Rattle.base.specs.Words.{In}
 use Rattle.logics.specs.El.{el}
 use Rattle.logics.specs.Plan.{Derived, Entailed, InGrid, Laid, SettledAt, cell, el_plan}
@@ -46,10 +47,10 @@ module _ (rs : List Record) where
       rw (digits_div g.0 inside.1, digits_mod g.0 inside.1) at e
 
 -- a goal that follows from two others is ticked once they are
-pub derive_one : (n : ℕ) (p q k : Goal) {before after : List ℕ} {changed : Bool} → InGrid n p → InGrid n q → InGrid n k → n * n ≤ length before → (changed ≡ true → Inferred (cell n p) (cell n q) (cell n k) before after) → (changed ≡ false → SettledAt n p q k before × (after ≡ before)) → Derived n p q k before after changed
-derive_one n p q k {before} p_in q_in k_in wide new old rs step =
+pub derive_one : (n : ℕ) (p q k : Goal) {before after : List ℕ} {changed : Bool} → InGrid n p → InGrid n q → InGrid n k → n * n ≤ length before → MatchBool changed (Inferred (cell n p) (cell n q) (cell n k) before after) (SettledAt n p q k before × (after ≡ before)) → Derived n p q k before after changed
+derive_one n p q k {before} p_in q_in k_in wide done rs step =
     infer_one _ _ _ _ _ _ (digits_lt k_in.0 k_in.1) wide
-    (λ all s t. cell_may rs n k k_in.1 (step (cell_stands rs n before all p p_in s) (cell_stands rs n before all q q_in t))) new old
+    (λ all s t. cell_may rs n k k_in.1 (step (cell_stands rs n before all p p_in s) (cell_stands rs n before all q q_in t))) done
 
 -- the cells of a goal that el takes
 pub el_laid : (n roles : ℕ) (g : Goal) → (el n roles).TakesGoal g → Laid (el_plan n roles) g

@@ -1,4 +1,4 @@
-use Rattle.std.proofs.Common.{◌∙◌, ◌≡◌, Bool, eqb, filter, eqb→eq, arith}
+use Rattle.std.proofs.Common.{◌∙◌, ◌≡◌, Bool, eqb, filter, eqb→eq, rules}
 use Rattle.base.specs.Words.{In}
 use Rattle.base.proofs.Tests.{eqb_iff, is_true, passed}
 use Rattle.logics.specs.Entailed.{entails_source}
@@ -27,7 +27,7 @@ derive-changed-requires c =
     let i = given (goal.at.derive-changed-requires c).In-Some in
     let r = (c.requires.ready.taken c.args.source c.requires.given).source c.requires.form in
     let p = (c.requires.ready.taken c.in-Some.partner i.0).partner i.1 in
-    record { wide = omega (arith, c.requires.ready.wide); first = (c.requires.row, p.0); second = (p.2, r.1); third = (c.requires.row, r.2) }
+    search rules
 
 pub loop-partner-preserved-then-partner-source : goal.loop-partner-preserved-then-partner-source
 loop-partner-preserved-then-partner-source c =

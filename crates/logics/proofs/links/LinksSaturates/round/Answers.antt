@@ -1,4 +1,4 @@
-use Rattle.std.proofs.Common.{◌∙◌, arith}
+use Rattle.std.proofs.Common.{◌∙◌, rules, arith}
 use Rattle.base.specs.Words.{In}
 use Rattle.logics.specs.WorkArea.{Settled}
 use Rattle.logics.specs.Ticks.{tick_weaker, infer_one}
@@ -14,14 +14,14 @@ given c = on_the_way c.loop-link.yielded (c.into_iter-link-iterator.ensures.into
 pub infer-changed-requires : goal.infer-changed-requires
 infer-changed-requires c =
     let link = c.requires.taken _ (given (goal.at.infer-changed-requires c).In-Some) in
-    (omega (arith, link.from), (omega (arith, link.from), omega (arith, link.to)))
+    search rules
 
 pub loop-link-preserved : goal.loop-link-preserved
 loop-link-preserved c =
     let r = c.in-Some.link in
     let i = given (goal.at.loop-link-preserved c).In-Some in
     let link = c.requires.taken r i in
-    λ g. round_more (λ r. Settled r.a r.a r.b) _ r _ _ (c.loop-link.invariant g) (infer_one r.a r.a r.b _ _ _ link.to (omega arith) (λ all here _. leads_on _ r g.0 i link.form (all r.a link.from here)) c.infer-changed.ensures.inferred c.infer-changed.ensures.settled)
+    λ g. round_more (λ r. Settled r.a r.a r.b) _ r _ _ (c.loop-link.invariant g) (infer_one r.a r.a r.b _ _ _ link.to (omega arith) (λ all here _. leads_on _ r g.0 i link.form (all r.a link.from here)) c.infer-changed.ensures)
 
 pub returns : goal.returns
 returns c =
