@@ -3,3 +3,4 @@ pub mod Tests
 pub mod Ones
 pub mod Tables
 pub mod Checks
+pub mod Arrays
