@@ -1,6 +1,7 @@
 -- What a table in the making gives when it is finished.
 use Rattle.std.proofs.Common.{◌≡◌, ℕ, zero, suc, ◌-◌, ◌^◌, ◌<◌, ◌≤◌, List, get_or, Option, None, Some, MatchOption, refl, inl, inr, arith}
 use Rattle.std.specs.Option.{IsSome}
+use Rattle.std.proofs.lemmas.Option.{MatchOption-at_some}
 use Rattle.std.proofs.Math.Decide.{ℕ_discrete}
 use Rattle.base.specs.Bits.{Has}
 use Rattle.base.specs.Words.{Iff}
@@ -41,10 +42,6 @@ module _ (n : ℕ) (rows : List ℕ) (inside : Inside n rows) (ordered : Partial
     pub lacks_join : NoJoin (matrix n rows) → Lacking (table n pairs)
     lacks_join (a, b, la, lb, none) = (a, b, la, lb, inr (λ j x. none j (same_least (table n pairs) (matrix n rows) back a b j x)))
 
-    pub lacks_meet : (down : List ℕ) → Flipped rows down → NoJoin (matrix n down) → Lacking (table n pairs)
-    lacks_meet down flip (a, b, la, lb, none) =
-        (a, b, la, lb, inl (λ m x. none m (greatest_least n rows down inside ordered flip a b m (same_greatest (table n pairs) (matrix n rows) back a b m x))))
-
     pub made : (meets joins : List (List ℕ)) (top primes : ℕ) → Finished (matrix n rows) meets joins top primes → TableSize n
         → (Lacking (table n pairs) → ⊥) × Means (matrix n rows) (table n pairs)
     made meets joins top primes done size =
@@ -54,36 +51,47 @@ module _ (n : ℕ) (rows : List ℕ) (inside : Inside n rows) (ordered : Partial
         none (a, b, la, lb, inl lacks) = lacks (entry meets a b) (same_greatest (matrix n rows) (table n pairs) same a b (entry meets a b) ((done.meet a b).0 la lb))
         none (a, b, la, lb, inr lacks) = lacks (entry joins a b) (same_least (matrix n rows) (table n pairs) same a b (entry joins a b) ((done.join a b).0 la lb))
 
-  -- the same rows seen from above, and the joins of the labels
-  module _ (down : List ℕ) (flip : Flipped rows down) (joins : List (List ℕ)) (join : JoinTable (matrix n rows) joins) where
-    pub some_top : 0 < n → (o : Option ℕ) → MatchOption o ((t : ℕ) → t < n → get_or down t 0 ≡ 2 ^ n - 1 → ⊥) (λ t. (t < n) × (get_or down t 0 ≡ 2 ^ n - 1)) → IsSome o
-    some_top some None none =
-        let (t, in_t, above) = above_all (matrix n rows) joins ordered join some n (omega arith) in
-        absurd (none t in_t (top_row n rows down inside ordered flip t above))
-    some_top some (Some t) is = refl
+  -- the same order seen from above
+  module _ (m : ℕ) (down : List ℕ) (same : m ≡ n) (flip : Flipped rows down) where
+    pub lacks_meet : (pairs : List (ℕ × ℕ)) → Keeps n rows pairs → NoJoin (matrix m down) → Lacking (table n pairs)
+    lacks_meet pairs keeps lacks =
+        let (a, b, la, lb, none) = rw same at lacks in
+        (a, b, la, lb, inl (λ g x. none g (greatest_least n rows down inside ordered flip a b g (same_greatest (table n pairs) (matrix n rows) (back pairs keeps) a b g x))))
 
-    split_primes : (primes : ℕ)
-        → ((u : ℕ) → Iff (Has primes u) ((u < n) × ((a b : ℕ) → a < n → b < n → SplitBits down u a b (entry joins a b))))
-        → PrimeSet (matrix n rows) joins primes
-    split_primes primes bits u = (
-      λ h. let (l, split) = (bits u).0 h in (
-        l,
-        λ a b la lb below apart.
-            under n rows inside u b ((flip u b).0 (split a b la lb ((flip u (entry joins a b)).1 below.order) (λ g. apart (under n rows inside u a ((flip u a).0 g))))),
-      ),
-      λ p. (bits u).1 (
-        p.0,
-        λ a b la lb h apart.
-            (flip u b).1 (p.1 a b la lb (under n rows inside u (entry joins a b) ((flip u (entry joins a b)).0 h)) (λ x. apart ((flip u a).1 x.order))).order,
-      ),
-    )
+    -- and the joins of the labels
+    module _ (joins : List (List ℕ)) (join : JoinTable (matrix n rows) joins) where
+      pub some_top : 0 < n → (o : Option ℕ) → MatchOption o ((t : ℕ) → t < m → get_or down t 0 ≡ 2 ^ m - 1 → ⊥) (λ t. (t < m) × (get_or down t 0 ≡ 2 ^ m - 1)) → IsSome o
+      some_top some None none =
+          let (t, in_t, above) = above_all (matrix n rows) joins ordered join some n (omega arith) in
+          absurd ((rw same at none) t in_t (top_row n rows down inside ordered flip t above))
+      some_top some (Some t) is = refl
 
-    pub finished : (meets : List (List ℕ)) → JoinTable (matrix n down) meets → (top primes : ℕ) → (top < n) × (get_or down top 0 ≡ 2 ^ n - 1)
-        → ((u : ℕ) → Iff (Has primes u) ((u < n) × ((a b : ℕ) → a < n → b < n → SplitBits down u a b (entry joins a b))))
-        → Finished (matrix n rows) meets joins top primes
-    finished meets meet top primes (in_top, row) bits = record {
-      meet = λ a b. (λ la lb. least_greatest n rows down inside ordered flip a b _ ((meet a b).0 la lb), (meet a b).1);
-      join = join;
-      highest = (in_top, row_top n rows down inside ordered flip top row);
-      prime = split_primes primes bits;
-    }
+      split_primes : (primes : ℕ)
+          → ((u : ℕ) → Iff (Has primes u) ((u < n) × ((a b : ℕ) → a < n → b < n → SplitBits down u a b (entry joins a b))))
+          → PrimeSet (matrix n rows) joins primes
+      split_primes primes bits u = (
+        λ h. let (l, split) = (bits u).0 h in (
+          l,
+          λ a b la lb below apart.
+              under n rows inside u b ((flip u b).0 (split a b la lb ((flip u (entry joins a b)).1 below.order) (λ g. apart (under n rows inside u a ((flip u a).0 g))))),
+        ),
+        λ p. (bits u).1 (
+          p.0,
+          λ a b la lb h apart.
+              (flip u b).1 (p.1 a b la lb (under n rows inside u (entry joins a b) ((flip u (entry joins a b)).0 h)) (λ x. apart ((flip u a).1 x.order))).order,
+        ),
+      )
+
+      pub finished : (meets : List (List ℕ)) → JoinTable (matrix m down) meets
+          → (o : Option ℕ) → MatchOption o ((t : ℕ) → t < m → get_or down t 0 ≡ 2 ^ m - 1 → ⊥) (λ t. (t < m) × (get_or down t 0 ≡ 2 ^ m - 1)) → (top : ℕ) → o ≡ Some top
+          → (primes : ℕ) → ((u : ℕ) → Iff (Has primes u) ((u < m) × ((a b : ℕ) → a < m → b < m → SplitBits down u a b (entry joins a b))))
+          → Finished (matrix n rows) meets joins top primes
+      finished meets meet o lowest top is primes bits =
+          let greatest = rw same at meet in
+          let (in_top, row) = rw same at (MatchOption-at_some _ _ top is lowest) in
+          record {
+            meet = λ a b. (λ la lb. least_greatest n rows down inside ordered flip a b _ ((greatest a b).0 la lb), (greatest a b).1);
+            join = join;
+            highest = (in_top, row_top n rows down inside ordered flip top row);
+            prime = split_primes primes (rw same at bits);
+          }

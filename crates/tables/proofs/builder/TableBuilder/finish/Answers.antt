@@ -1,4 +1,3 @@
-use Rattle.std.proofs.lemmas.Option.{MatchOption-at_some}
 use Rattle.std.proofs.lemmas.Result.{err_from_is_err_and}
 use Rattle.tables.proofs.Finishing.{lacks_join, lacks_meet, made, some_top, finished}
 use Rattle.tables.proofs.builder.TableBuilder.finish.Goals as goal
@@ -13,29 +12,27 @@ pub returns-in_err-meets : goal.returns-in_err-meets
 returns-in_err-meets c = λ pairs keeps.
     let order = c.args.self.order in
     let down = c.flipped-down.ensures in
-    let none = rw down.labels at c.in_err-meets.ensures in
     let p = err_from_is_err_and c.from_residual-in_err-meets.result c.from_residual-in_err-meets.ensures.1 in
-    rw (p.1, p.2) (none.0, lacks_meet _ _ order.inside order.ordered pairs keeps _ down.flipped none.1)
+    rw (p.1, p.2) (c.in_err-meets.ensures.0, lacks_meet _ _ order.inside order.ordered _ _ down.labels down.flipped pairs keeps c.in_err-meets.ensures.1)
 
 pub unwrap-top-requires : goal.unwrap-top-requires
 unwrap-top-requires c =
     let order = c.args.self.order in
     let down = c.flipped-down.ensures in
-    some_top _ _ order.inside order.ordered _ down.flipped _ c.in_ok-joins.ensures order.sized.0 _ (rw down.labels at c.lowest.ensures)
+    some_top _ _ order.inside order.ordered _ _ down.labels down.flipped _ c.in_ok-joins.ensures order.sized.0 _ c.lowest.ensures
 
 pub invariant_of-result : goal.invariant_of-result
 invariant_of-result c =
     let order = c.args.self.order in
     let down = c.flipped-down.ensures in
-    let top = MatchOption-at_some _ _ _ c.unwrap-top.ensures (rw down.labels at c.lowest.ensures) in
     record {
-      finished = finished _ _ order.inside order.ordered _ down.flipped _ c.in_ok-joins.ensures _ (rw down.labels at c.in_ok-meets.ensures) _ _ top (rw down.labels at c.prime_set-primes.ensures);
+      finished = finished _ _ order.inside order.ordered _ _ down.labels down.flipped _ c.in_ok-joins.ensures _ c.in_ok-meets.ensures _ c.lowest.ensures _ c.unwrap-top.ensures _ c.prime_set-primes.ensures;
     }
 
 pub returns : goal.returns
 returns c = λ pairs keeps.
     let order = c.args.self.order in
     let down = c.flipped-down.ensures in
-    let top = MatchOption-at_some _ _ _ c.unwrap-top.ensures (rw down.labels at c.lowest.ensures) in
-    let done = finished _ _ order.inside order.ordered _ down.flipped _ c.in_ok-joins.ensures _ (rw down.labels at c.in_ok-meets.ensures) _ _ top (rw down.labels at c.prime_set-primes.ensures) in
+    let done =
+    finished _ _ order.inside order.ordered _ _ down.labels down.flipped _ c.in_ok-joins.ensures _ c.in_ok-meets.ensures _ c.lowest.ensures _ c.unwrap-top.ensures _ c.prime_set-primes.ensures in
     made _ _ order.inside order.ordered pairs keeps _ _ _ _ done order.sized
