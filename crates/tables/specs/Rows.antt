@@ -58,6 +58,10 @@ abbrev pub Within : ℕ → List (List ℕ) → Type 0
 Within n t = (a b : ℕ) → a < n → b < n → entry t a b < n
 
 module _ (k : LabelOrder) where
+  -- the numbers of a row are the joins of a with each label, and 0 for numbers that are no labels
+  pub record JoinRow (a : ℕ) (row : List ℕ) : Type 0 where
+    pub at : (b : ℕ) → Joins k a b (slice_index row b)
+
   -- the entries are the joins, or the meets, of the labels, and 0 for numbers that are no labels
   abbrev pub JoinTable : List (List ℕ) → Type 0
   JoinTable t = (a b : ℕ) → Joins k a b (entry t a b)

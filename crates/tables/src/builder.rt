@@ -7,7 +7,7 @@ use crate::order::Order;
 use labels::fault::KindFault;
 
 // A table in the making: the order of the pairs that were added so far.
-#[derive(Drop)]
+#[derive(Drop, PartialEq, Eq, Debug)]
 pub struct TableBuilder {
     pub(crate) order: Order,
 }

@@ -5,14 +5,14 @@ ghost use Rattle.base.specs.Words.{Iff};
 ghost use Rattle.labels.specs.Order.{Label, Under, Joins, Least};
 ghost use Rattle.labels.specs.declared.fault.KindFault.TheVariants.{NoMeetOrJoin};
 ghost use Rattle.tables.specs.Table.{TableSize};
-ghost use Rattle.tables.specs.Rows.{Marked, matrix, Inside, PartialOrder, Keeps, Linked, IsColumn, Flipped, JoinTable, NoJoin};
+ghost use Rattle.tables.specs.Rows.{Marked, matrix, Inside, PartialOrder, Keeps, Linked, IsColumn, Flipped, JoinRow, JoinTable, NoJoin};
 ghost use Rattle.tables.specs.OneProof.{order_one};
 
 use base::contains;
 use labels::fault::KindFault;
 use std::array;
 
-#[derive(Drop)]
+#[derive(Drop, PartialEq, Eq, Debug)]
 pub(crate) struct Order {
     pub(crate) labels: u32,
     pub(crate) rows: [u32; 32],
@@ -120,7 +120,7 @@ impl Order {
     // The joins of a with each label.
     fn join_row(&self, a: usize) -> Result<[u8; 32], KindFault>
         requires { a < 32 }
-        ensures { MatchResult result (λ row. (b : ℕ) → Joins (matrix self.now.labels self.now.rows) a b (slice_index row b)) (λ f. (f ≡ NoMeetOrJoin) × NoJoin (matrix self.now.labels self.now.rows)) }
+        ensures { MatchResult result (JoinRow (matrix self.now.labels self.now.rows) a) (λ f. (f ≡ NoMeetOrJoin) × NoJoin (matrix self.now.labels self.now.rows)) }
     {
         let mut row = [0; 32];
         for (b, join) in row.iter_mut().enumerate() {

@@ -15,7 +15,7 @@ use labels::kind::LabelKind;
 use labels::square::entry;
 
 // A label kind whose order is given by pairs. Every question is answered by look-up.
-#[derive(Drop)]
+#[derive(Drop, PartialEq, Eq, Debug)]
 pub struct Table {
     order: Order,
     // the meet and the join of a and b stand in row a, at place b
