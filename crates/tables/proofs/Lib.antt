@@ -1,3 +1,5 @@
+pub mod Flips
 pub mod Links
 pub mod Joins
-pub mod Primes
+pub mod Splits
+pub mod Finishing

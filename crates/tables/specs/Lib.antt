@@ -4,5 +4,3 @@ pub mod OneProof
 pub mod Laws
 pub mod Matrix
 pub mod Chains
-pub mod Finishing
-pub mod Flips

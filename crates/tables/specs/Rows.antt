@@ -2,7 +2,7 @@
 use Rattle.std.specs.Prelude.{◌≡◌, ℕ, ◌<◌, ◌⊎◌, List, [], Result, MatchResult, slice_index, slice_index_or}
 use Rattle.base.specs.Bits.{Has}
 use Rattle.base.specs.Words.{Iff}
-use Rattle.labels.specs.Order.{LabelOrder, Label, Under, Greatest, Least, Top}
+use Rattle.labels.specs.Order.{LabelOrder, Label, Under, Least, Top, Meets, Joins}
 use Rattle.labels.specs.declared.fault.KindFault.{KindFault}
 use Rattle.tables.specs.Table.{table, more, PairTaken, PairRefused}
 
@@ -31,6 +31,10 @@ Keeps n rows pairs = (a b : ℕ) → Iff (Marked rows a b) (Under (table n pairs
 abbrev pub Linked : List ℕ → List ℕ → ℕ → ℕ → Type 0
 Linked old new low high = (a b : ℕ) → Iff (Marked new a b) (Marked old a b ⊎ (Marked old a low × Marked old high b))
 
+-- the set holds the labels at or below b
+pub record IsColumn (rows : List ℕ) (b column : ℕ) : Type 0 where
+  pub marks : (a : ℕ) → Iff (Has column a) (Marked rows a b)
+
 -- the same order, seen from above
 abbrev pub Flipped : List ℕ → List ℕ → Type 0
 Flipped rows down = (a b : ℕ) → Iff (Marked down b a) (Marked rows a b)
@@ -54,12 +58,20 @@ abbrev pub Within : ℕ → List (List ℕ) → Type 0
 Within n t = (a b : ℕ) → a < n → b < n → entry t a b < n
 
 module _ (k : LabelOrder) where
-  -- the entries are the joins, or the meets, of the labels
+  -- the numbers of a row are the joins of a with each label, and 0 for numbers that are no labels
+  pub record JoinRow (a : ℕ) (row : List ℕ) : Type 0 where
+    pub at : (b : ℕ) → Joins k a b (slice_index row b)
+
+  -- the entries are the joins, or the meets, of the labels, and 0 for numbers that are no labels
   abbrev pub JoinTable : List (List ℕ) → Type 0
-  JoinTable t = (a b : ℕ) → Label k a → Label k b → Least k a b (entry t a b)
+  JoinTable t = (a b : ℕ) → Joins k a b (entry t a b)
 
   abbrev pub MeetTable : List (List ℕ) → Type 0
-  MeetTable t = (a b : ℕ) → Label k a → Label k b → Greatest k a b (entry t a b)
+  MeetTable t = (a b : ℕ) → Meets k a b (entry t a b)
+
+  -- some two labels have no join
+  abbrev pub NoJoin : Type 0
+  NoJoin = (a : ℕ) × (b : ℕ) × Label k a × Label k b × ((j : ℕ) → Least k a b j → ⊥)
 
   -- u is at or below the second of two labels where it is at or below their join and not the first
   abbrev pub Splits : ℕ → ℕ → ℕ → ℕ → Type 0
@@ -72,7 +84,6 @@ module _ (k : LabelOrder) where
 
   -- what a finished table has at hand
   pub record Finished (meets joins : List (List ℕ)) (top primes : ℕ) : Type 0 where
-    pub ordered : PartialOrder k
     pub meet : MeetTable meets
     pub join : JoinTable joins
     pub highest : Label k top × Top k top
