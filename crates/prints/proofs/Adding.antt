@@ -1,8 +1,9 @@
 -- Pieces that are printed one behind another.
 use Rattle.std.proofs.Common.{◌≡◌, ℕ, List, [], ◌++◌, sym, subst, append_assoc}
+use Rattle.std.specs.Borrow.{MutBor}
 use Rattle.std.proofs.lemmas.List.{append-nil}
 use Rattle.prints.specs.declared.Print.{Print}
-use Rattle.prints.specs.Output.{PrintedBy, Adds}
+use Rattle.prints.specs.Output.{Printed, PrintedBy, Adds}
 
 -- nothing is printed
 pub adds_none : {p : Print} → Adds [] p p
@@ -16,3 +17,7 @@ adds_both {a} {b} {r = r} f g =
 -- the same piece, in other words
 pub adds_same : {a b : List ℕ} {p q : Print} → a ≡ b → Adds a p q → Adds b p q
 adds_same {p = p} {q} e f = subst (λ (s : List ℕ). Adds s p q) e f
+
+-- an output that is given back is as the print has left it
+pub given_back : {t : List ℕ} {out : MutBor (List ℕ)} {p : Print} → PrintedBy t out p → (now : List ℕ) → (out.ghost_name ≡ p.out.ghost_name → now ≡ p.out.now) → Printed t out.now p.length now
+given_back {t} {out} {p} h now left = subst (λ (s : List ℕ). Printed t out.now p.length s) (sym (left (sym h.same_reference))) h.printed
