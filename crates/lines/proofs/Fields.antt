@@ -1,11 +1,11 @@
 -- Bytes that are cut at a separator.
-use Rattle.std.proofs.Common.{◌≡◌, ℕ, zero, suc, ◌+◌, ◌<◌, ◌≤◌, Bool, true, false, cond, eqb, ◌⊎◌, List, [], ◌∷◌, ◌++◌, length, get_or, take, drop, count_by as count_by_of, sym, refl, ap, ◌∙◌, subst, ap₂, inl, inr, append-nil, add-zero, arith, length-drop, take-append-drop, get_or-drop, eq-eqb, ne_eqb, eqb-true, false-eqb}
+use Rattle.std.proofs.Common.{◌≡◌, ℕ, zero, suc, ◌+◌, ◌<◌, Bool, true, false, cond, eqb, ◌⊎◌, List, [], ◌∷◌, ◌++◌, length, get_or, take, drop, count_by as count_by_of, unwrap_or, Option, Some, None, sym, refl, ap, ◌∙◌, subst, ap₂, inl, inr, append-nil, add-zero, arith, length-drop, take-append-drop, get_or-drop, eq-eqb, ne_eqb, eqb-true, false-eqb}
 use borrow.Author.Tests.{eqb-false}
 use Rattle.std.proofs.lemmas.List.{drop_more}
 use Rattle.std.proofs.lemmas.List.Sums.{sum_by-cons, sum_by-append}
 use Rattle.base.specs.Words.{In}
 use Rattle.base.specs.Commas.{tails}
-use Rattle.lines.specs.Reading.{Parted}
+use Rattle.lines.specs.Reading.{FirstPlace, Parted}
 
 -- the separator does not stand in the bytes
 abbrev pub Bare : ℕ → List ℕ → Type 0
@@ -137,13 +137,25 @@ pub first_byte : (bs : List ℕ) (b : ℕ) → false ≡ eqb (length bs) 0 → g
 first_byte [] b some e = absurd (false-eqb 0 0 some refl)
 first_byte (x ∷ bs) b some e = (bs, ap (λ (a : ℕ). a ∷ bs) e)
 
+-- bytes up to the next comma have none, and fields begin there
+cut_field : (bs : List ℕ) (o : Option ℕ) → FirstPlace 44 bs o
+    → let r = unwrap_or o (length bs) in Bare 44 (take r bs) × (0 < length (drop r bs) → get_or (drop r bs) 0 0 ≡ 44)
+cut_field bs None before = (bare_take 44 bs (length bs) before, λ some. absurd (omega (arith, length-drop (length bs) bs)))
+cut_field bs (Some r) (within, found, before) = (bare_take 44 bs r before, λ some. get_or-drop r bs 0 0 ∙ ap (λ (i : ℕ). get_or bs i 0) (add-zero r) ∙ found)
+
 -- a search for the next comma finds the end of the first field
-pub field_found : (bs : List ℕ) (r : ℕ) → r ≤ length bs → ((k : ℕ) → k < r → get_or bs k 0 ≡ 44 → ⊥) → (r < length bs → get_or bs r 0 ≡ 44)
-    → (f : List ℕ) (fs : List (List ℕ)) → Parted (44 ∷ bs) (f ∷ fs) → (take r bs ≡ f) × Parted (drop r bs) fs
-field_found bs r within before found f fs p =
-    let begins : 0 < length (drop r bs) → get_or (drop r bs) 0 0 ≡ 44 = λ some.
-    get_or-drop r bs 0 0 ∙ ap (λ (i : ℕ). get_or bs i 0) (add-zero r) ∙ found (omega (arith, length-drop r bs)) in
+pub first_field : (b : ℕ) (bs : List ℕ) (o : Option ℕ) → FirstPlace 44 bs o → (fields : List (List ℕ)) → Parted (b ∷ bs) fields
+    → let r = unwrap_or o (length bs) in (others : List (List ℕ)) × (fields ≡ take r bs ∷ others) × Parted (drop r bs) others
+first_field b bs o search [] p = absurd (let e = p.bytes in cc)
+first_field b bs o search (f ∷ fs) p =
+    let r = unwrap_or o (length bs) in
+    let (bare, begins) = cut_field bs o search in
     let (others, q, _) = parted_of (drop r bs) begins in
     let t : bs ≡ f ++ tails fs = let e = p.bytes in cc in
-    let (same, rest) = parts (take r bs) others f fs (all_bare (take r bs) others (bare_take 44 bs r before) q.bare) p.bare (ap (λ (l : List ℕ). take r bs ++ l) (sym q.bytes) ∙ take-append-drop r bs ∙ t) in
-    (same, record { bytes = q.bytes ∙ rest; bare = λ g i. p.bare g (inr i) })
+    let (same, rest) = parts (take r bs) others f fs (all_bare (take r bs) others bare q.bare) p.bare (ap (λ (l : List ℕ). take r bs ++ l) (sym q.bytes) ∙ take-append-drop r bs ∙ t) in
+    (fs, ap (λ (g : List ℕ). g ∷ fs) (sym same), record { bytes = q.bytes ∙ rest; bare = λ g i. p.bare g (inr i) })
+
+-- where no bytes are, no fields are
+pub no_fields : (fields : List (List ℕ)) (bs : List ℕ) → Parted bs fields → length bs ≡ 0 → fields ≡ []
+no_fields [] bs p none = refl
+no_fields (f ∷ fs) bs p none = absurd (omega (arith, ap length p.bytes))

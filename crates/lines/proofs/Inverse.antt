@@ -1,5 +1,5 @@
 -- What is written is read back as the same.
-use Rattle.std.proofs.Common.{◌≡◌, ℕ, zero, suc, ◌^◌, ◌<◌, ◌≤◌, List, [], ◌∷◌, ◌++◌, map, length, get_or, take, decimal, Option, sym, refl, ap, ◌∙◌, subst, ap₂, inl, inr, append_assoc, arith, take-append-drop, length-take-le}
+use Rattle.std.proofs.Common.{◌≡◌, ℕ, zero, suc, ◌^◌, ◌<◌, List, [], ◌∷◌, ◌++◌, map, length, get_or, take, decimal, Option, sym, refl, ap, ◌∙◌, subst, ap₂, inl, inr, append_assoc, arith, take-append-drop, length-take-le}
 use Rattle.std.specs.Int.{IsInRange as Between}
 use Rattle.std.proofs.lemmas.Fmt.{digits_decimal, decimal_injective}
 use Rattle.std.proofs.lemmas.List.{append_cancel_left, length-map}
@@ -19,7 +19,7 @@ use Rattle.lines.specs.Lines.{numbers_of, body, text, Whole}
 use Rattle.lines.specs.Reading.{Shaped, Ended, TextFails, endless, shapeless, misplaced, unreadable}
 use Rattle.lines.proofs.Numbers.{plain}
 use Rattle.lines.proofs.Fields.{Bare, AllBare, bare_append, first_part, fields_unique}
-use Rattle.lines.proofs.Openings.{same_opening}
+use Rattle.lines.proofs.Openings.{same_opening, few_numbers}
 
 -- each byte lies above the line feed
 abbrev above : List ℕ → Type 0
@@ -114,23 +114,6 @@ text_unique x y v w r s e =
     let same' : opening y.form ++ tails (map decimal (take (arity y.form) x.numbers)) ≡ body y = subst (λ (f : Form). opening f ++ tails (map decimal (take (arity f) x.numbers)) ≡ body y) form same in
     let numbers : x.numbers ≡ y.numbers = numbers_unique y.form x.numbers y.numbers v' w (append_cancel_left (opening y.form) _ _ same') in
     (ap₂ (λ (f : Form) (ns : List ℕ). record { form = f; numbers = ns }) form numbers, rest)
-
--- no form has more than four numbers
-few_numbers : (f : Form) → arity f ≤ 4
-few_numbers (Kind Chain) = omega arith
-few_numbers (Kind Sets) = omega arith
-few_numbers (Kind House) = omega arith
-few_numbers (Kind Table) = omega arith
-few_numbers Pair = omega arith
-few_numbers (Logic El) = omega arith
-few_numbers (Logic Links) = omega arith
-few_numbers (Axiom Lies) = omega arith
-few_numbers (Axiom Both) = omega arith
-few_numbers (Axiom Partner) = omega arith
-few_numbers (Axiom Source) = omega arith
-few_numbers (Axiom Link) = omega arith
-few_numbers User = omega arith
-few_numbers Goal = omega arith
 
 -- a line has the shape of its form
 own_shape : (x : Line) → Whole x → Shaped (body x) x.form (map decimal (numbers_of x))

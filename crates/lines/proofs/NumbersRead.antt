@@ -17,15 +17,6 @@ pub record SoFar (parts : List (List ℕ)) (rest : List ℕ) (i : ℕ) (numbers 
   pub small : (n : ℕ) → In n numbers → n < 2 ^ 32
   pub zeros : drop i numbers ≡ replicate (4 - i) 0
 
--- fields are left where bytes are
-pub field_left : (rest : List ℕ) (todo : List (List ℕ)) → Parted rest todo → 0 < length rest → (f : List ℕ) × (others : List (List ℕ)) × (todo ≡ f ∷ others)
-field_left rest [] p some = absurd (omega (arith, ap length p.bytes))
-field_left rest (f ∷ others) p some = (f, others, refl)
-
-none_left : (rest : List ℕ) (todo : List (List ℕ)) → Parted rest todo → length rest ≡ 0 → todo ≡ []
-none_left rest [] p none = refl
-none_left rest (f ∷ others) p none = absurd (omega (arith, ap length p.bytes))
-
 nothing : {A : Type 0} (xs : List A) → length xs ≡ 0 → xs ≡ []
 nothing [] e = refl
 nothing (x ∷ xs) e = absurd (omega arith)
@@ -54,10 +45,10 @@ so_far_more parts rest i numbers s f others is n small e lt after p =
       zeros = drop-set-lt (i + 1) numbers i n (omega arith) ∙ sym (drop-drop 1 i numbers) ∙ ap (drop 1) s.zeros ∙ drop-replicate 1 (4 - i) 0 ∙ ap (λ (k : ℕ). replicate k 0) (sym fewer);
     }
 
-pub so_far_all : (parts : List (List ℕ)) (rest : List ℕ) (i : ℕ) (numbers : List ℕ) → SoFar parts rest i numbers → (length rest ≡ 0) ⊎ (length parts ≤ i) → Numbered parts numbers
+pub so_far_all : (parts : List (List ℕ)) (rest : List ℕ) (i : ℕ) (numbers : List ℕ) → (s : SoFar parts rest i numbers) → (s.todo ≡ []) ⊎ (length parts ≤ i) → Numbered parts numbers
 so_far_all parts rest i numbers s over =
     let none : s.todo ≡ [] = elim over [
-      | inl short ↦ none_left rest s.todo s.left short
+      | inl none ↦ none
       | inr few ↦ nothing s.todo (omega (arith, ap length s.all, length-append s.done s.todo, s.count))
     ] in
     let same : parts ≡ s.done = s.all ∙ ap (λ (l : List (List ℕ)). s.done ++ l) none ∙ append-nil s.done in

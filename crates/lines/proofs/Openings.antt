@@ -1,11 +1,11 @@
--- No form's opening begins another's.
-use Rattle.std.proofs.Common.{◌≡◌, ℕ, cond, eqb, List, [], ◌∷◌, ◌++◌, get_or, sym, refl, ap, ◌∙◌}
+-- No form's opening begins another's, and no form has many numbers.
+use Rattle.std.proofs.Common.{◌≡◌, ℕ, ◌≤◌, cond, eqb, List, [], ◌∷◌, ◌++◌, get_or, sym, refl, ap, ◌∙◌, arith}
 use Rattle.lines.specs.declared.form.Form.{Form}
 use Rattle.lines.specs.declared.form.Form.TheVariants.{Kind, Pair, Logic, Axiom, User, Goal}
 use Rattle.lines.specs.declared.form.KindForm.TheVariants.{Chain, Sets, House, Table}
 use Rattle.lines.specs.declared.form.LogicForm.TheVariants.{El, Links}
 use Rattle.lines.specs.declared.form.AxiomForm.TheVariants.{Lies, Both, Partner, Source, Link}
-use Rattle.lines.specs.Forms.{opening}
+use Rattle.lines.specs.Forms.{opening, arity}
 
 -- the first of the cases whose number it is
 abbrev pick : Form → List (ℕ × Form) → ℕ → Form
@@ -45,3 +45,20 @@ pub pair_opening : (f : Form) (rest : List ℕ) → get_or (opening f ++ rest) 0
 pair_opening f rest first =
     let bs = opening f ++ rest in
     sym (told_opening f rest) ∙ ap (pick (pick (Kind Table) ((99, Kind Chain) ∷ (115, Kind Sets) ∷ (104, Kind House) ∷ []) (get_or bs 2 0)) (letters (get_or bs 2 0))) first
+
+-- no form has more than four numbers
+pub few_numbers : (f : Form) → arity f ≤ 4
+few_numbers (Kind Chain) = omega arith
+few_numbers (Kind Sets) = omega arith
+few_numbers (Kind House) = omega arith
+few_numbers (Kind Table) = omega arith
+few_numbers Pair = omega arith
+few_numbers (Logic El) = omega arith
+few_numbers (Logic Links) = omega arith
+few_numbers (Axiom Lies) = omega arith
+few_numbers (Axiom Both) = omega arith
+few_numbers (Axiom Partner) = omega arith
+few_numbers (Axiom Source) = omega arith
+few_numbers (Axiom Link) = omega arith
+few_numbers User = omega arith
+few_numbers Goal = omega arith
