@@ -38,8 +38,19 @@ pub enum Form {
     Goal,
 }
 
+// The sections of a file, in their order.
+#[derive(Clone, Copy, PartialEq, Eq, PartialOrd, Ord, Debug)]
+pub(crate) enum Section {
+    Kind,
+    Pairs,
+    Logic,
+    Axioms,
+    Users,
+    Goals,
+}
+
 impl Form {
-    ghost use Rattle.lines.specs.Forms.{arity as arity_of, OfTable};
+    ghost use Rattle.lines.specs.Forms.{arity as arity_of, section as section_of, place, OfTable};
 
     // How many numbers a line of the form has.
     pub(crate) fn arity(self) -> usize
@@ -51,6 +62,20 @@ impl Form {
             Form::Pair | Form::Goal | Form::Logic(LogicForm::El) => 2,
             Form::Axiom(AxiomForm::Lies | AxiomForm::Link) => 3,
             Form::Axiom(_) => 4,
+        }
+    }
+
+    // The section that a line of the form belongs to.
+    pub(crate) fn section(self) -> Section
+        ensures { place result ≡ section_of self }
+    {
+        match self {
+            Form::Kind(_) => Section::Kind,
+            Form::Pair => Section::Pairs,
+            Form::Logic(_) => Section::Logic,
+            Form::Axiom(_) => Section::Axioms,
+            Form::User => Section::Users,
+            Form::Goal => Section::Goals,
         }
     }
 

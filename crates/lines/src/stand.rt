@@ -1,34 +1,23 @@
 // Where a line may stand.
-ghost use Rattle.std.specs.Prelude.{◌≡◌, ◌≤◌, T, length};
+ghost use Rattle.std.specs.Prelude.{T};
 ghost use Rattle.base.specs.Words.{Iff};
-ghost use Rattle.lines.specs.Forms.{section as section_of, After, May};
+ghost use Rattle.lines.specs.Forms.{After, May};
 
-use crate::form::{AxiomForm, Form, KindForm, LogicForm};
+use crate::form::{Form, Section};
 
-// The place of the form among the sections of a file.
-fn section(form: Form) -> u8
-    ensures { result ≡ section_of form }
-{
-    match form {
-        Form::Kind(_) => 0,
-        Form::Pair => 1,
-        Form::Logic(_) => 2,
-        Form::Axiom(_) => 3,
-        Form::User => 4,
-        Form::Goal => 5,
-    }
-}
+// The most lines that name users.
+const MOST_USERS: usize = 16;
 
 // May a line of the form come right after one of the form `last`?
 fn comes_after(last: Form, form: Form) -> bool
     ensures { Iff (T result) (After last form) }
 {
-    let from = section(last);
-    let to = section(form);
-    if from < 2 {
-        to == 2 || to == 1 && last.is_of_table()
+    let from = last.section();
+    let to = form.section();
+    if from < Section::Logic {
+        to == Section::Logic || to == Section::Pairs && last.is_of_table()
     } else {
-        to >= 3 && from <= to
+        to >= Section::Axioms && from <= to
     }
 }
 
@@ -36,8 +25,11 @@ fn comes_after(last: Form, form: Form) -> bool
 pub(crate) fn may_stand(last: Option<Form>, users: usize, form: Form) -> bool
     ensures { Iff (T result) (May last users form) }
 {
+    let section = form.section();
     match last {
-        None => section(form) == 0,
-        Some(before) => comes_after(before, form) && (section(form) != 4 || users < 16),
+        None => section == Section::Kind,
+        Some(before) => {
+            comes_after(before, form) && (section != Section::Users || users < MOST_USERS)
+        }
     }
 }
