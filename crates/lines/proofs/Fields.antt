@@ -3,6 +3,10 @@ use Rattle.std.proofs.Common.{◌≡◌, ℕ, zero, suc, ◌+◌, ◌<◌, Bool,
 use borrow.Author.Tests.{eqb-false}
 use Rattle.std.proofs.lemmas.List.{drop_more}
 use Rattle.std.proofs.lemmas.List.Sums.{sum_by-cons, sum_by-append}
+use Rattle.std.proofs.lemmas.Bool.Decides.{Decides-eqb}
+use Rattle.std.proofs.lemmas.Slice.Eq.{slice_eq-Decides, strip_prefix_is}
+use lib.Pointwise.{pointwise}
+use mathlib.Core.Logic.{◌≢◌}
 use Rattle.base.specs.Words.{In}
 use Rattle.base.specs.Commas.{tails}
 use Rattle.lines.specs.Reading.{FirstPlace, Parted}
@@ -159,3 +163,11 @@ first_field b bs o search (f ∷ fs) p =
 pub no_fields : (fields : List (List ℕ)) (bs : List ℕ) → Parted bs fields → length bs ≡ 0 → fields ≡ []
 no_fields [] bs p none = refl
 no_fields (f ∷ fs) bs p none = absurd (omega (arith, ap length p.bytes))
+
+-- what a word shows of the bytes that begin with it, and of those that do not
+pub stripped : (bs word : List ℕ) → pointwise eqb (take (length word) bs) word ≡ true → bs ≡ word ++ drop (length word) bs
+stripped bs word is =
+    sym (take-append-drop (length word) bs) ∙ ap (λ (l : List ℕ). l ++ drop (length word) bs) ((slice_eq-Decides Decides-eqb (take (length word) bs) word true (sym is)).0 refl)
+
+pub not_stripped : (bs word rest : List ℕ) → pointwise eqb (take (length word) bs) word ≡ false → bs ≢ word ++ rest
+not_stripped bs word rest is = strip_prefix_is Decides-eqb bs word None is rest

@@ -9,24 +9,18 @@ ghost use Rattle.lines.specs.Reading.{Parted, Shaped};
 
 use crate::form::{AxiomForm, Form, KindForm, LogicForm};
 
-// What stands behind the word, where the bytes begin with it.
-fn behind<'a>(line: &'a [u8], word: &[u8]) -> Option<&'a [u8]>
-    ensures { MatchOption result ((rest : List ℕ) → line.now ≢ word.now ++ rest) (λ rest. line.now ≡ word.now ++ rest.now) }
-{
-    line.strip_prefix(word)
-}
-
 // The kind that a line names, and what stands behind its word.
+#[tactic(auto, using(crate::proofs::Fields::stripped, crate::proofs::Fields::not_stripped))]
 fn kind_of(line: &[u8]) -> Option<(Form, &[u8])>
     ensures { MatchOption result ((k : AnyKind) (rest : List ℕ) → line.now ≢ opening (Kind k) ++ rest) (λ x. line.now ≡ opening x.0 ++ x.1.now) }
 {
-    if let Some(rest) = behind(line, b"K,chain") {
+    if let Some(rest) = line.strip_prefix(b"K,chain") {
         Some((Form::Kind(KindForm::Chain), rest))
-    } else if let Some(rest) = behind(line, b"K,sets") {
+    } else if let Some(rest) = line.strip_prefix(b"K,sets") {
         Some((Form::Kind(KindForm::Sets), rest))
-    } else if let Some(rest) = behind(line, b"K,house") {
+    } else if let Some(rest) = line.strip_prefix(b"K,house") {
         Some((Form::Kind(KindForm::House), rest))
-    } else if let Some(rest) = behind(line, b"K,table") {
+    } else if let Some(rest) = line.strip_prefix(b"K,table") {
         Some((Form::Kind(KindForm::Table), rest))
     } else {
         None
@@ -34,12 +28,13 @@ fn kind_of(line: &[u8]) -> Option<(Form, &[u8])>
 }
 
 // The logic that a line names, and what stands behind its word.
+#[tactic(auto, using(crate::proofs::Fields::stripped, crate::proofs::Fields::not_stripped))]
 fn logic_of(line: &[u8]) -> Option<(Form, &[u8])>
     ensures { MatchOption result ((l : AnyLogic) (rest : List ℕ) → line.now ≢ opening (Logic l) ++ rest) (λ x. line.now ≡ opening x.0 ++ x.1.now) }
 {
-    if let Some(rest) = behind(line, b"G,el") {
+    if let Some(rest) = line.strip_prefix(b"G,el") {
         Some((Form::Logic(LogicForm::El), rest))
-    } else if let Some(rest) = behind(line, b"G,links") {
+    } else if let Some(rest) = line.strip_prefix(b"G,links") {
         Some((Form::Logic(LogicForm::Links), rest))
     } else {
         None
