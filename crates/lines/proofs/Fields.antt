@@ -1,8 +1,8 @@
 -- Bytes that are cut at a separator.
-use Rattle.std.proofs.Common.{◌≡◌, ℕ, zero, suc, ◌+◌, ◌<◌, Bool, true, false, cond, eqb, ◌⊎◌, List, [], ◌∷◌, ◌++◌, length, get_or, take, drop, count_by as count_by_of, unwrap_or, Option, Some, None, sym, refl, ap, ◌∙◌, subst, ap₂, inl, inr, append-nil, add-zero, arith, length-drop, take-append-drop, get_or-drop, eq-eqb, ne_eqb, eqb-true, false-eqb}
+use Rattle.std.proofs.Common.{◌≡◌, ℕ, zero, suc, ◌+◌, ◌<◌, Bool, true, false, cond, eqb, ◌⊎◌, List, [], ◌∷◌, ◌++◌, length, get_or, take, drop, count_by as count_by_of, unwrap_or, Option, Some, None, sym, refl, ap, ◌∙◌, subst, ap₂, inl, inr, append-nil, add-zero, arith, length-drop, take-append-drop, get_or-drop, eq-eqb, eqb-true}
 use borrow.Author.Tests.{eqb-false}
 use Rattle.std.proofs.lemmas.List.{drop_more}
-use Rattle.std.proofs.lemmas.List.Sums.{sum_by-cons, sum_by-append}
+use Rattle.std.proofs.lemmas.Grind.{common_steps}
 use Rattle.std.proofs.lemmas.Bool.Decides.{Decides-eqb}
 use Rattle.std.proofs.lemmas.Slice.Eq.{slice_eq-Decides, strip_prefix_is}
 use lib.Pointwise.{pointwise}
@@ -43,15 +43,14 @@ bare_take c (b ∷ bs) (suc r) none (inl e) = none 0 (omega arith) (sym e)
 bare_take c (b ∷ bs) (suc r) none (inr i) = bare_take c bs r (λ k lt e. none (suc k) (omega arith) e) i
 
 pub cut_at : (c : ℕ) (bs : List ℕ) (r : ℕ) → r < length bs → get_or bs r 0 ≡ c → bs ≡ take r bs ++ (c ∷ drop (r + 1) bs)
-cut_at c bs r lt e =
-    sym (take-append-drop r bs) ∙ ap (λ (l : List ℕ). take r bs ++ l) (drop_more bs r 0 lt ∙ ap (λ (b : ℕ). b ∷ drop (r + 1) bs) e)
+cut_at c bs r lt e = grind (arith, common_steps, drop_more bs r 0 lt, take-append-drop r bs)
 
 abbrev pub comma : ℕ → Bool
 comma b = eqb b 44
 
 -- a byte more in front
 count_by : (b : ℕ) (bs : List ℕ) (t : Bool) → eqb b 44 ≡ t → count_by_of comma (b ∷ bs) ≡ cond t 1 0 + count_by_of comma bs
-count_by b bs t is = sum_by-cons (λ x. cond (comma x) 1 0) b bs ∙ ap (λ (u : Bool). cond u 1 0 + count_by_of comma bs) is
+count_by b bs t is = grind (arith, common_steps)
 
 -- each of the fields has no comma
 abbrev pub AllBare : List (List ℕ) → Type 0
@@ -100,11 +99,11 @@ parted_of (b ∷ bs) begins =
     (c.first ∷ c.others, record { bytes = ap₂ ◌∷◌ is c.bytes; bare = c.bare }, omega (arith, c.count, count_by b bs true (eq-eqb b 44 is)))
 
 count_append : (xs ys : List ℕ) → count_by_of comma (xs ++ ys) ≡ count_by_of comma xs + count_by_of comma ys
-count_append xs ys = sum_by-append (λ x. cond (comma x) 1 0) xs ys
+count_append xs ys = grind (arith, common_steps)
 
 count_bare : (f : List ℕ) → Bare 44 f → count_by_of comma f ≡ 0
 count_bare [] bare = refl
-count_bare (b ∷ f) bare = omega (arith, count_by b f false (ne_eqb b 44 (λ e. bare (inl (sym e)))), count_bare f (λ i. bare (inr i)))
+count_bare (b ∷ f) bare = grind (arith, count_by b f, count_bare f (λ i. bare (inr i)))
 
 -- as many commas as fields
 count_tails : (fs : List (List ℕ)) → AllBare fs → count_by_of comma (tails fs) ≡ length fs
@@ -135,11 +134,6 @@ fields_unique (f ∷ fs) (g ∷ gs) bf bg e =
     let t : f ++ tails fs ≡ g ++ tails gs = cc in
     let (same, rest) = parts f fs g gs bf bg t in
     ap₂ ◌∷◌ same (fields_unique fs gs (λ h i. bf h (inr i)) (λ h i. bg h (inr i)) rest)
-
--- the first byte, and the others
-pub first_byte : (bs : List ℕ) (b : ℕ) → false ≡ eqb (length bs) 0 → get_or bs 0 0 ≡ b → (rest : List ℕ) × (bs ≡ b ∷ rest)
-first_byte [] b some e = absurd (false-eqb 0 0 some refl)
-first_byte (x ∷ bs) b some e = (bs, ap (λ (a : ℕ). a ∷ bs) e)
 
 -- bytes up to the next comma have none, and fields begin there
 cut_field : (bs : List ℕ) (o : Option ℕ) → FirstPlace 44 bs o

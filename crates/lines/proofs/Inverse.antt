@@ -7,10 +7,6 @@ use Rattle.std.proofs.lemmas.Str.Parse.{not_in_digits}
 use Rattle.base.specs.Words.{In}
 use Rattle.base.specs.Commas.{tails}
 use Rattle.lines.specs.declared.form.Form.{Form}
-use Rattle.lines.specs.declared.form.Form.TheVariants.{Kind, Pair, Logic, Axiom, User, Goal}
-use Rattle.lines.specs.declared.form.KindForm.TheVariants.{Chain, Sets, House, Table}
-use Rattle.lines.specs.declared.form.LogicForm.TheVariants.{El, Links}
-use Rattle.lines.specs.declared.form.AxiomForm.TheVariants.{Lies, Both, Partner, Source, Link}
 use Rattle.lines.specs.declared.form.Line.{Line}
 use Rattle.lines.specs.declared.fault.TextFault.{TextFault}
 use Rattle.lines.specs.declared.fault.TextFault.TheVariants.{Malformed, Misplaced, NotANumber, PrintTooLong, FileTooLong}
@@ -32,20 +28,7 @@ bare_above (b ∷ bs) (lt, more) (inr i) = bare_above bs more i
 bare_above [] more i = i
 
 above_opening : (f : Form) → above (opening f)
-above_opening (Kind Chain) = search arith
-above_opening (Kind Sets) = search arith
-above_opening (Kind House) = search arith
-above_opening (Kind Table) = search arith
-above_opening Pair = search arith
-above_opening (Logic El) = search arith
-above_opening (Logic Links) = search arith
-above_opening (Axiom Lies) = search arith
-above_opening (Axiom Both) = search arith
-above_opening (Axiom Partner) = search arith
-above_opening (Axiom Source) = search arith
-above_opening (Axiom Link) = search arith
-above_opening User = search arith
-above_opening Goal = search arith
+above_opening f = search arith
 
 place_in : (c : ℕ) (bs : List ℕ) → In c bs → (k : ℕ) × (k < length bs) × (get_or bs k 0 ≡ c)
 place_in c [] i = absurd i

@@ -1,5 +1,6 @@
 -- Reading numbers field by field.
-use Rattle.std.proofs.Common.{◌≡◌, ℕ, zero, suc, ◌+◌, ◌-◌, ◌^◌, ◌<◌, ◌≤◌, ◌⊎◌, List, [], ◌∷◌, ◌++◌, map, length, take, drop, set, replicate, decimal, sym, refl, ap, ◌∙◌, subst, ap₂, inl, inr, append_assoc, append-nil, arith, length-append, length-set, drop-set-lt}
+use Rattle.std.proofs.Common.{◌≡◌, ℕ, zero, suc, ◌+◌, ◌-◌, ◌^◌, ◌<◌, ◌≤◌, ◌⊎◌, List, [], ◌∷◌, ◌++◌, map, length, take, drop, set, replicate, decimal, sym, refl, ap, ◌∙◌, subst, ap₂, inl, inr, append_assoc, append-nil, arith, rules, length-append, length-set, drop-set-lt}
+use Rattle.std.proofs.lemmas.Grind.{common_steps}
 use mathlib.Core.List.{map-append}
 use Rattle.std.proofs.lemmas.List.{take_more_set, drop-drop, drop-replicate}
 use Rattle.base.specs.Words.{In}
@@ -23,10 +24,8 @@ nothing (x ∷ xs) e = absurd (omega arith)
 
 in_set : (xs : List ℕ) (i y n : ℕ) → In n (set xs i y) → (n ≡ y) ⊎ In n xs
 in_set [] i y n h = inr h
-in_set (x ∷ xs) zero y n (inl e) = inl e
-in_set (x ∷ xs) zero y n (inr h) = inr (inr h)
-in_set (x ∷ xs) (suc i) y n (inl e) = inr (inl e)
-in_set (x ∷ xs) (suc i) y n (inr h) = elim (in_set xs i y n h) [ inl e ↦ inl e | inr k ↦ inr (inr k) ]
+in_set (x ∷ xs) zero y n h = search rules
+in_set (x ∷ xs) (suc i) y n h = search (rules, in_set xs i y n)
 
 pub so_far_more : (parts : List (List ℕ)) (rest : List ℕ) (i : ℕ) (numbers : List ℕ) (s : SoFar parts rest i numbers) → (f : List ℕ) (others : List (List ℕ)) → s.todo ≡ f ∷ others
     → (n : ℕ) → n < 2 ^ 32 → f ≡ decimal n → i < 4 → (after : List ℕ) → Parted after others → SoFar parts after (i + 1) (set numbers i n)
@@ -38,11 +37,11 @@ so_far_more parts rest i numbers s f others is n small e lt after p =
       todo = others;
       all = s.all ∙ ap (λ (l : List (List ℕ)). s.done ++ l) is ∙ sym (append_assoc s.done (f ∷ []) others);
       left = p;
-      count = length-append s.done (f ∷ []) ∙ ap (λ (k : ℕ). k + 1) s.count;
+      count = grind (arith, common_steps, s.count);
       read = ap₂ (λ (l m : List (List ℕ)). l ++ m) s.read (ap (λ (g : List ℕ). g ∷ []) e) ∙ sym (map-append decimal (take i numbers) (n ∷ [])) ∙ ap (map decimal) (sym (take_more_set numbers i n within));
       four = length-set numbers i n ∙ s.four;
       small = λ m h. elim (in_set numbers i n m h) [ inl same ↦ omega (arith, same) | inr old ↦ s.small m old ];
-      zeros = drop-set-lt (i + 1) numbers i n (omega arith) ∙ sym (drop-drop 1 i numbers) ∙ ap (drop 1) s.zeros ∙ drop-replicate 1 (4 - i) 0 ∙ ap (λ (k : ℕ). replicate k 0) (sym fewer);
+      zeros = grind (arith, common_steps, drop-set-lt, drop-drop, drop-replicate, s.zeros);
     }
 
 pub so_far_all : (parts : List (List ℕ)) (rest : List ℕ) (i : ℕ) (numbers : List ℕ) → (s : SoFar parts rest i numbers) → (s.todo ≡ []) ⊎ (length parts ≤ i) → Numbered parts numbers
