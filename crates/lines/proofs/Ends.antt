@@ -1,6 +1,8 @@
 -- From what was found of a line to the line.
-use Rattle.std.proofs.Common.{◌≡◌, ℕ, ◌+◌, ◌-◌, List, [], ◌∷◌, ◌++◌, map, length, take, drop, replicate, decimal, Option, Some, None, Result, Ok, Err, sym, ap, ◌∙◌, subst, append_assoc, arith, take_all}
+use Rattle.std.proofs.Common.{◌≡◌, ℕ, ◌+◌, ◌-◌, List, [], ◌∷◌, ◌++◌, map, length, take, drop, replicate, decimal, Option, Some, None, Result, Ok, Err, MatchResult, sym, ap, ◌∙◌, subst, append_assoc, arith, take_all}
 use Rattle.std.specs.Option.{ok_or}
+use Rattle.std.specs.Result.{IsErrAnd}
+use Rattle.std.proofs.lemmas.Result.{err_from_is_err_and}
 use Rattle.base.specs.Words.{In}
 use Rattle.base.specs.Commas.{tails}
 use Rattle.lines.specs.declared.form.Form.{Form}
@@ -15,10 +17,13 @@ no_end bs before i = bare_take 10 bs (length bs) before (subst (In 10) (sym (tak
 pub end_found : (bs : List ℕ) (r : ℕ) → FirstPlace 10 bs (Some r) → Ended bs (take r bs) (drop (r + 1) bs)
 end_found bs r (within, found, before) = record { split = cut_at 10 bs r within found; first = bare_take 10 bs r before }
 
--- an error that is given for a value that is missing
-pub missing : {T E : Type 0} (o : Option T) (e d : E) → ◌≡◌ {A = Result T E} (Err d) (ok_or o e) → d ≡ e
-missing (Some x) e d is = absurd (let h : ◌≡◌ {A = Result _ _} (Err d) (Ok x) = is in cc)
-missing None e d is = cc
+-- what `?` hands on where a value is missing
+pub refused : {T X E : Type 0} (o : Option T) (e d : E) → ◌≡◌ {A = Result T E} (Err d) (ok_or o e) → (r : Result X E) → IsErrAnd r (λ y. y ≡ d)
+    → (P : X → Type 0) (Q : E → Type 0) → Q e → MatchResult r P Q
+refused (Some x) e d is r told P Q q = absurd (let h : ◌≡◌ {A = Result _ _} (Err d) (Ok x) = is in cc)
+refused None e d is r told P Q q =
+    let (fault, err, same) = err_from_is_err_and r told in
+    let given : d ≡ e = cc in rw (err, same, given) q
 
 pub line_next : (last : Option Form) (users : ℕ) (bs line after : List ℕ) → Ended bs line after → (f : Form) (fields : List (List ℕ)) → Shaped line f fields → May last users f
     → (numbers : List ℕ) → Numbered fields numbers → Next last users bs (record { form = f; numbers = numbers }) after

@@ -1,5 +1,5 @@
 -- What is written is read back as the same.
-use Rattle.std.proofs.Common.{◌≡◌, ℕ, zero, suc, ◌^◌, ◌<◌, List, [], ◌∷◌, ◌++◌, map, length, get_or, take, decimal, Option, sym, refl, ap, ◌∙◌, subst, ap₂, inl, inr, append_assoc, arith, take-append-drop, length-take-le}
+use Rattle.std.proofs.Common.{◌≡◌, ℕ, zero, suc, ◌^◌, ◌<◌, List, [], ◌∷◌, ◌++◌, map, length, get_or, take, decimal, Option, sym, refl, ap, ◌∙◌, subst, ap₂, inl, inr, append_assoc, arith, rules, take-append-drop, length-take-le}
 use Rattle.std.specs.Int.{IsInRange as Between}
 use Rattle.std.proofs.lemmas.Fmt.{digits_decimal, decimal_injective}
 use Rattle.std.proofs.lemmas.List.{append_cancel_left, length-map}
@@ -47,10 +47,9 @@ Small ns = (n : ℕ) → In n ns → n < 2 ^ 32
 
 in_take : (k : ℕ) (ns : List ℕ) (n : ℕ) → In n (take k ns) → In n ns
 in_take zero [] n i = i
-in_take zero (m ∷ ns) n i = absurd i
 in_take (suc k) [] n i = i
-in_take (suc k) (m ∷ ns) n (inl e) = inl e
-in_take (suc k) (m ∷ ns) n (inr i) = inr (in_take k ns n i)
+in_take zero (m ∷ ns) n i = absurd i
+in_take (suc k) (m ∷ ns) n i = search (rules, in_take k ns n)
 
 bare_tails : (ns : List ℕ) → Small ns → Bare 10 (tails (map decimal ns))
 bare_tails [] small i = i
