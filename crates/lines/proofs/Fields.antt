@@ -26,6 +26,10 @@ first_part c (a ∷ f) (b ∷ g) xs ys bf bg e =
     let (same, rest) = first_part c f g xs ys (λ i. bf (inr i)) (λ i. bg (inr i)) t in
     (ap₂ ◌∷◌ h same, rest)
 
+pub in_middle : {A : Type 0} (x : A) (xs ys : List A) → In x (xs ++ (x ∷ ys))
+in_middle x [] ys = inl refl
+in_middle x (y ∷ xs) ys = inr (in_middle x xs ys)
+
 in_append : (c : ℕ) (xs ys : List ℕ) → In c (xs ++ ys) → In c xs ⊎ In c ys
 in_append c [] ys i = inr i
 in_append c (x ∷ xs) ys (inl e) = inl (inl e)

@@ -14,7 +14,7 @@ use Rattle.lines.specs.Forms.{opening, arity, May}
 use Rattle.lines.specs.Lines.{numbers_of, body, text, Whole}
 use Rattle.lines.specs.Reading.{Shaped, Ended, TextFails, endless, shapeless, misplaced, unreadable}
 use Rattle.lines.proofs.Numbers.{plain}
-use Rattle.lines.proofs.Fields.{Bare, AllBare, bare_append, first_part, fields_unique}
+use Rattle.lines.proofs.Fields.{Bare, AllBare, in_middle, bare_append, first_part, fields_unique}
 use Rattle.lines.proofs.Openings.{same_opening, few_numbers}
 
 -- each byte lies above the line feed
@@ -107,10 +107,6 @@ own_shape x w =
       count = length-map (numbers_of x) decimal ∙ length-take-le (arity x.form) x.numbers (omega (arith, few_numbers x.form, w.four));
     }
 
-has_end : (xs ys : List ℕ) → In 10 ((xs ++ (10 ∷ [])) ++ ys)
-has_end [] ys = inl refl
-has_end (x ∷ xs) ys = inr (has_end xs ys)
-
 in_decimals : (field : List ℕ) (ns : List ℕ) → In field (map decimal ns) → (n : ℕ) × In n ns × (field ≡ decimal n)
 in_decimals field [] i = absurd i
 in_decimals field (n ∷ ns) (inl e) = (n, inl refl, e)
@@ -129,7 +125,7 @@ module _ (last : Option Form) (users : ℕ) (bs : List ℕ) (x : Line) (after : 
       (form, fields_unique fields (map decimal (numbers_of x)) s.parted.bare (all_bare_decimals (numbers_of x) (small_numbers x w)) (sym s.parted.bytes ∙ behind))
 
   pub no_text_fault : (f : TextFault) → TextFails last users bs f → ⊥
-  no_text_fault Malformed (endless none) = none (subst (In 10) (sym e) (has_end (body x) after))
+  no_text_fault Malformed (endless none) = none (subst (In 10) (sym (e ∙ append_assoc (body x) (10 ∷ []) after)) (in_middle 10 (body x) after))
   no_text_fault Malformed (shapeless line rest ended none) = none x.form (map decimal (numbers_of x)) (subst (λ (l : List ℕ). Shaped l x.form (map decimal (numbers_of x))) (sym (same_line line rest ended)) (own_shape x w))
   no_text_fault Misplaced (misplaced line rest ended f fields s never) = never (subst (May last users) (sym (same_shape line rest ended f fields s).0) may)
   no_text_fault NotANumber (unreadable line rest ended f fields s _ field i none) =

@@ -1,19 +1,15 @@
 -- Text that is refused is refused by one fault.
-use Rattle.std.proofs.Common.{◌≡◌, ℕ, List, [], ◌∷◌, ◌++◌, Option, sym, refl, ◌∙◌, subst, inl, inr}
+use Rattle.std.proofs.Common.{◌≡◌, ℕ, List, Option, sym, refl, ◌∙◌, subst}
 use Rattle.base.specs.Words.{In}
 use Rattle.lines.specs.declared.fault.TextFault.{TextFault}
 use Rattle.lines.specs.declared.form.Form.{Form}
 use Rattle.lines.specs.Forms.{May}
 use Rattle.lines.specs.Reading.{Shaped, Ended, TextFails, endless, shapeless, misplaced, unreadable}
-use Rattle.lines.proofs.Fields.{first_part}
+use Rattle.lines.proofs.Fields.{in_middle, first_part}
 use Rattle.lines.proofs.Openings.{same_opening}
 
 ended_has : (bs line after : List ℕ) → Ended bs line after → In 10 bs
-ended_has bs line after ended = subst (In 10) (sym ended.split) (behind line)
-  where
-    behind : (xs : List ℕ) → In 10 (xs ++ (10 ∷ after))
-    behind [] = inl refl
-    behind (x ∷ xs) = inr (behind xs)
+ended_has bs line after ended = subst (In 10) (sym ended.split) (in_middle 10 line after)
 
 module _ (bs l a m b : List ℕ) (e : Ended bs l a) (d : Ended bs m b) where
   one_line : l ≡ m

@@ -1,4 +1,4 @@
-use Rattle.std.proofs.Common.{inr, arith}
+use Rattle.std.proofs.Common.{arith}
 use Rattle.lines.proofs.NumbersRead.{so_far_more, so_far_all, in_todo}
 use Rattle.lines.proofs.read.read_numbers.Goals as goal
 
@@ -16,4 +16,4 @@ loop-number-preserved c = λ parts p few.
     so_far_more parts _ _ _ s _ others is _ small read (omega arith) _ rest
 
 pub returns-after-loop-number : goal.returns-after-loop-number
-returns-after-loop-number c = λ parts p few. so_far_all parts _ _ _ (c.loop-number.invariant parts p few) (inr (omega arith))
+returns-after-loop-number c = λ parts p few. so_far_all parts _ _ _ (c.loop-number.invariant parts p few) (omega arith)
