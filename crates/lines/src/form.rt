@@ -1,4 +1,4 @@
-ghost use Rattle.std.specs.Prelude.{◌≡◌, ◌≤◌, ◌<◌, T, length};
+ghost use Rattle.std.specs.Prelude.{◌≡◌, T};
 ghost use Rattle.base.specs.Words.{Iff};
 
 // The label kind that a K line names.

@@ -24,7 +24,7 @@ fn read_numbers(fields: &[u8]) -> Option<[u32; 4]>
 {
     let mut numbers = [0; 4];
     let mut rest = fields;
-    for number in numbers.iter_mut() {
+    for number in &mut numbers {
         let Some((field, others)) = first_field(rest) else {
             break;
         };

@@ -1,5 +1,5 @@
 // The form of a line, by its letter, its word and the count of its fields.
-ghost use Rattle.std.specs.Prelude.{◌≡◌, ℕ, ◌≤◌, List, ◌++◌, length, drop, MatchOption, ◌≢◌};
+ghost use Rattle.std.specs.Prelude.{◌≡◌, ℕ, ◌≤◌, List, ◌++◌, length, MatchOption, ◌≢◌};
 ghost use Rattle.lines.specs.declared.form.KindForm.{KindForm as AnyKind};
 ghost use Rattle.lines.specs.declared.form.LogicForm.{LogicForm as AnyLogic};
 ghost use Rattle.lines.specs.declared.form.Form.{Form as AnyForm};
@@ -41,7 +41,8 @@ fn logic_of(line: &[u8]) -> Option<(Form, &[u8])>
     }
 }
 
-// The form that the first letter names, for a kind or a logic with the word behind it, and what stands behind that.
+// The form that the first letter names, for a kind or a logic with the word behind it, and what stands behind that. Kept: a rule of
+// the project, that letters are matched as `char` literals.
 fn form_of(line: &[u8]) -> Option<(Form, &[u8])>
     ensures { MatchOption result ((f : AnyForm) (rest : List ℕ) → line.now ≢ opening f ++ rest) (λ x. line.now ≡ opening x.0 ++ x.1.now) }
 {
