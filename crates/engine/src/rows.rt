@@ -30,13 +30,13 @@ pub struct RowTable {
 impl Model for RowTable {
     ghost use Rattle.std.specs.Prelude.{List, take};
     ghost use Rattle.engine.specs.declared.page.Row.{Row as AnyRow};
-    ghost use Rattle.engine.specs.Rows.{Filled};
+    ghost use Rattle.engine.specs.Rows.{InUse};
 
     ghost Value = { List AnyRow };
 
     ghost view = { λ t. take t.count t.rows };
 
-    ghost invariant = { λ t. Filled t.rows t.count };
+    ghost invariant = { λ t. InUse t.rows t.count };
 }
 
 impl RowTable {
