@@ -8,8 +8,7 @@ use Rattle.base.specs.Words.{Iff}
 use Rattle.labels.specs.Order.{LabelOrder, Label, Under, Same, Means}
 use Rattle.labels.proofs.Orders.{same_sym, same_least, same_greatest, same_lawful}
 use Rattle.tables.specs.Table.{TableSize, table, Lacking}
-use Rattle.tables.specs.Rows.{matrix, Inside, PartialOrder, Flipped, Keeps, NoJoin, JoinTable, PrimeSet, SplitBits, Finished, entry}
-use Rattle.tables.specs.Matrix.{under}
+use Rattle.tables.specs.Rows.{matrix, Inside, PartialOrder, Flipped, Keeps, NoJoin, JoinTable, PrimeSet, SplitBits, Finished, entry, under}
 use Rattle.tables.specs.Laws.{table_lawful}
 use Rattle.tables.proofs.Flips.{least_greatest, greatest_least, row_top, top_row}
 

@@ -6,8 +6,7 @@ use Rattle.base.specs.Bits.{Has}
 use Rattle.base.proofs.Sets.{has_and, same_set}
 use Rattle.labels.specs.Order.{Least, Joins}
 use Rattle.labels.specs.declared.fault.KindFault.TheVariants.{NoMeetOrJoin}
-use Rattle.tables.specs.Rows.{Marked, matrix, Inside, PartialOrder, NoJoin}
-use Rattle.tables.specs.Matrix.{under}
+use Rattle.tables.specs.Rows.{Marked, matrix, Inside, PartialOrder, NoJoin, under}
 
 -- j is the join of a and b when the labels at or above j are those at or above both
 module _ (n : ℕ) (rows : List ℕ) (inside : Inside n rows) (ordered : PartialOrder (matrix n rows)) where

@@ -18,6 +18,10 @@ matrix n rows = record { size = n; Below = Marked rows }
 abbrev pub Inside : ℕ → List ℕ → Type 0
 Inside n rows = (a b : ℕ) → Marked rows a b → (a < n) × (b < n)
 
+-- the bits alone say that a label is under another
+pub under : (n : ℕ) (rows : List ℕ) → Inside n rows → (a b : ℕ) → Marked rows a b → Under (matrix n rows) a b
+under n rows inside a b h = record { low = (inside a b h).0; high = (inside a b h).1; order = h }
+
 pub record PartialOrder (k : LabelOrder) : Type 0 where
   pub reflexive : (a : ℕ) → Label k a → Under k a a
   pub antisymmetric : (a b : ℕ) → Under k a b → Under k b a → a ≡ b

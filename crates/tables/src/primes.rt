@@ -13,6 +13,7 @@ fn prime_row(joins: &[[u8; 32]; 32], down: &Order, a: usize) -> u32
     ensures { (u : ℕ) → Iff (Has result u) ((u < 32) × ((b : ℕ) → b < down.now.labels → SplitBits down.now.rows u a b (entry joins.now a b))) }
 {
     let mut primes = u32::MAX;
+    // kept: b is a place in a row of joins and a row of the order alike, and a third row is read beside it
     for b in 0..down.labels as usize {
         let j = joins[a][b] as usize;
         primes &= !down.rows[j] | down.rows[a] | down.rows[b];

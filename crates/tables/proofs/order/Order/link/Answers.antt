@@ -1,5 +1,5 @@
 use Rattle.std.proofs.Common.{rules}
-use Rattle.tables.specs.Matrix.{linked_inside, linked_ordered}
+use Rattle.tables.proofs.Matrix.{linked_inside, linked_ordered}
 use Rattle.tables.proofs.Links.{linked_rows}
 use Rattle.tables.proofs.order.Order.link.Goals as goal
 
