@@ -1,5 +1,5 @@
 -- Tests of the code, as the statements that they decide.
-use Rattle.std.proofs.Common.{◌≡◌, ℕ, ◌<◌, ◌≤◌, Bool, true, false, T, eqb, ltb, leb, Some, None, Option, le→leb, eqb→eq, ltb→lt, lt→ltb, leb→le, MatchOption}
+use Rattle.std.proofs.Common.{◌≡◌, ℕ, ◌<◌, ◌≤◌, Bool, true, false, T, eqb, ltb, leb, Some, None, Option, refl, le→leb, eqb→eq, ltb→lt, lt→ltb, leb→le, MatchOption}
 use lib.Dec.{eqb_refl}
 use Rattle.base.specs.Words.{Iff}
 
@@ -12,9 +12,13 @@ ltb_iff m n = (ltb→lt m n, lt→ltb m n)
 pub leb_iff : (m n : ℕ) → Iff (T (leb m n)) (m ≤ n)
 leb_iff m n = (leb→le m n, le→leb m n)
 
--- a test that is said to be true passes
+-- a test that is said to be true passes, and one that passes is true
 pub passed : {b : Bool} → b ≡ true → T b
 passed e = rw e tt
+
+pub is_true : (b : Bool) → T b → b ≡ true
+is_true true t = refl
+is_true false t = absurd t
 
 -- one that fails does not pass
 pub failed : {b : Bool} → b ≡ false → T b → ⊥
