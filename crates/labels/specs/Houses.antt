@@ -119,26 +119,3 @@ prime_part u prime =
             | inr v ↦ inr (omega arith)
           ]
     ]
-
--- the labels of one part, or none
-pub one_part : (u : ℕ) → (u < 12) × ((u % 4 ≡ 0) ⊎ (u ≤ 2)) → In u (0 ∷ 1 ∷ 2 ∷ 4 ∷ 8 ∷ [])
-one_part u (l, one) =
-    elim (ℕ_discrete u 0) [
-      | yes e ↦ inl e
-      | no n0 ↦ inr (elim (ℕ_discrete u 1) [
-        | yes e ↦ inl e
-        | no n1 ↦ inr (elim (ℕ_discrete u 2) [
-          | yes e ↦ inl e
-          | no n2 ↦ inr (elim (ℕ_discrete u 4)
-              [ yes e ↦ inl e | no n4 ↦ inr (inl (elim one [ inl four ↦ omega arith | inr few ↦ absurd (omega arith) ])) ])
-        ])
-      ])
-    ]
-
-pub part_one : (u : ℕ) → In u (0 ∷ 1 ∷ 2 ∷ 4 ∷ 8 ∷ []) → (u < 12) × ((u % 4 ≡ 0) ⊎ (u ≤ 2))
-part_one u (inl e) = (omega arith, inr (omega arith))
-part_one u (inr (inl e)) = (omega arith, inr (omega arith))
-part_one u (inr (inr (inl e))) = (omega arith, inr (omega arith))
-part_one u (inr (inr (inr (inl e)))) = (omega arith, inl (omega arith))
-part_one u (inr (inr (inr (inr (inl e))))) = (omega arith, inl (omega arith))
-part_one u (inr (inr (inr (inr (inr i))))) = absurd i

@@ -40,7 +40,7 @@ const JOINS: [[u8; 12]; 12] = [
 ];
 
 // Labels of three parts, 4 × sales + 2 × service + export, ordered part by part.
-#[derive(Clone, Copy, PartialEq, Eq, Debug)]
+#[derive(Clone, Copy, Default, PartialEq, Eq, Debug)]
 pub struct House;
 
 impl House {

@@ -1,15 +1,12 @@
 -- What a table in the making gives when it is finished.
-use Rattle.std.proofs.Common.{◌≡◌, ℕ, zero, suc, ◌-◌, ◌^◌, ◌<◌, ◌≤◌, List, get_or, Option, None, Some, MatchOption, refl, inl, inr, arith}
+use Rattle.std.proofs.Common.{◌≡◌, ℕ, zero, suc, ◌-◌, ◌^◌, ◌<◌, ◌≤◌, List, Option, None, Some, refl, inl, inr, arith}
 use Rattle.std.specs.Option.{IsSome}
 use Rattle.std.proofs.lemmas.Option.{MatchOption-at_some}
 use Rattle.std.proofs.Math.Decide.{ℕ_discrete}
-use Rattle.base.specs.Bits.{Has}
-use Rattle.base.specs.Words.{Iff}
 use Rattle.labels.specs.Order.{LabelOrder, Label, Under, Same, Means}
 use Rattle.labels.proofs.Orders.{same_sym, same_least, same_greatest, same_lawful}
 use Rattle.tables.specs.Table.{TableSize, table, Lacking}
-use Rattle.tables.specs.Rows.{matrix, Inside, PartialOrder, Flipped, Keeps, NoJoin, JoinTable, PrimeSet, SplitBits, Finished, entry}
-use Rattle.tables.specs.Matrix.{under}
+use Rattle.tables.specs.Rows.{matrix, Inside, PartialOrder, Flipped, Keeps, LabelOf, NoJoin, JoinTable, PrimeSet, SplitSet, Finished, entry, under}
 use Rattle.tables.specs.Laws.{table_lawful}
 use Rattle.tables.proofs.Flips.{least_greatest, greatest_least, row_top, top_row}
 
@@ -60,15 +57,14 @@ module _ (n : ℕ) (rows : List ℕ) (inside : Inside n rows) (ordered : Partial
 
     -- and the joins of the labels
     module _ (joins : List (List ℕ)) (join : JoinTable (matrix n rows) joins) where
-      pub some_top : 0 < n → (o : Option ℕ) → MatchOption o ((t : ℕ) → t < m → get_or down t 0 ≡ 2 ^ m - 1 → ⊥) (λ t. (t < m) × (get_or down t 0 ≡ 2 ^ m - 1)) → IsSome o
+      pub some_top : 0 < n → (o : Option ℕ) → LabelOf m down (2 ^ m - 1) o → IsSome o
       some_top some None none =
           let (t, in_t, above) = above_all (matrix n rows) joins ordered join some n (omega arith) in
           absurd ((rw same at none) t in_t (top_row n rows down inside ordered flip t above))
       some_top some (Some t) is = refl
 
       split_primes : (primes : ℕ)
-          → ((u : ℕ) → Iff (Has primes u) ((u < n) × ((a b : ℕ) → a < n → b < n → SplitBits down u a b (entry joins a b))))
-          → PrimeSet (matrix n rows) joins primes
+          → SplitSet n down joins primes → PrimeSet (matrix n rows) joins primes
       split_primes primes bits u = (
         λ h. let (l, split) = (bits u).0 h in (
           l,
@@ -83,8 +79,8 @@ module _ (n : ℕ) (rows : List ℕ) (inside : Inside n rows) (ordered : Partial
       )
 
       pub finished : (meets : List (List ℕ)) → JoinTable (matrix m down) meets
-          → (o : Option ℕ) → MatchOption o ((t : ℕ) → t < m → get_or down t 0 ≡ 2 ^ m - 1 → ⊥) (λ t. (t < m) × (get_or down t 0 ≡ 2 ^ m - 1)) → (top : ℕ) → o ≡ Some top
-          → (primes : ℕ) → ((u : ℕ) → Iff (Has primes u) ((u < m) × ((a b : ℕ) → a < m → b < m → SplitBits down u a b (entry joins a b))))
+          → (o : Option ℕ) → LabelOf m down (2 ^ m - 1) o → (top : ℕ) → o ≡ Some top
+          → (primes : ℕ) → SplitSet m down joins primes
           → Finished (matrix n rows) meets joins top primes
       finished meets meet o lowest top is primes bits =
           let greatest = rw same at meet in

@@ -2,8 +2,7 @@
 use Rattle.std.specs.Prelude.{◌≡◌, ℕ, ◌-◌, ◌^◌, List, slice_index}
 use Rattle.base.proofs.Sets.{same_set, has_ones}
 use Rattle.labels.specs.Order.{Under, Least, Greatest, Top}
-use Rattle.tables.specs.Rows.{matrix, Inside, PartialOrder, Flipped}
-use Rattle.tables.specs.Matrix.{under}
+use Rattle.tables.specs.Rows.{matrix, Inside, PartialOrder, Flipped, under}
 
 module _ (n : ℕ) (rows down : List ℕ) (inside : Inside n rows) (ordered : PartialOrder (matrix n rows)) (flip : Flipped rows down) where
   pub down_inside : Inside n down

@@ -1,3 +1,5 @@
+pub mod Chains
+pub mod Matrix
 pub mod Flips
 pub mod Links
 pub mod Joins

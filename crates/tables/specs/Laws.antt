@@ -6,8 +6,7 @@ use Rattle.base.specs.Words.{Iff}
 use Rattle.base.proofs.Sets.{has_or_not}
 use Rattle.labels.specs.Order.{Lawful, JoinPrime}
 use Rattle.tables.specs.Table.{TableSize}
-use Rattle.tables.specs.Rows.{matrix, Inside, PartialOrder, Finished, entry}
-use Rattle.tables.specs.Matrix.{under}
+use Rattle.tables.specs.Rows.{matrix, Inside, PartialOrder, Finished, entry, under}
 
 module _ (n : ℕ) (rows : List ℕ) (ordered : PartialOrder (matrix n rows)) (meets joins : List (List ℕ)) (top primes : ℕ) (done : Finished (matrix n rows) meets joins top primes) where
   pub table_lawful : TableSize n → Lawful (matrix n rows)

@@ -1,11 +1,9 @@
 // An order of labels, held as rows of bits: bit b of row a says that a is at or below b.
-ghost use Rattle.std.specs.Prelude.{◌≡◌, ◌≢◌, ℕ, ◌-◌, ◌^◌, ◌<◌, ◌≤◌, T, List, [], MatchOption, MatchResult, slice_index};
-ghost use Rattle.base.specs.Bits.{Has};
+ghost use Rattle.std.specs.Prelude.{◌≡◌, ◌≢◌, ◌-◌, ◌^◌, ◌<◌, T, []};
 ghost use Rattle.base.specs.Words.{Iff};
-ghost use Rattle.labels.specs.Order.{Label, Under, Joins, Least};
-ghost use Rattle.labels.specs.declared.fault.KindFault.TheVariants.{NoMeetOrJoin};
+ghost use Rattle.labels.specs.Order.{Under, Joins};
 ghost use Rattle.tables.specs.Table.{TableSize};
-ghost use Rattle.tables.specs.Rows.{Marked, matrix, Inside, PartialOrder, Keeps, Linked, IsColumn, Flipped, JoinRow, JoinTable, NoJoin};
+ghost use Rattle.tables.specs.Rows.{Marked, matrix, Inside, PartialOrder, Keeps, Linked, IsColumn, Flipped, LabelOf, JoinRow, JoinTable, Joined};
 ghost use Rattle.tables.specs.OneProof.{order_one};
 
 use base::contains;
@@ -57,7 +55,7 @@ impl Order {
     pub fn link(&mut self, low: u32, high: u32)
         requires low { low < self.old.labels }
         requires high { high < self.old.labels }
-        requires open { (low ≢ high) × Marked self.old.rows high low → ⊥ }
+        requires no_loop { (low ≢ high) × Marked self.old.rows high low → ⊥ }
         ensures labels { self.new.labels ≡ self.old.labels }
         ensures linked { Linked self.old.rows self.new.rows low high }
     {
@@ -96,7 +94,7 @@ impl Order {
 
     // The label with this row, where there is one.
     fn label_of(&self, row: u32) -> Option<u8>
-        ensures { MatchOption result ((j : ℕ) → j < self.now.labels → slice_index self.now.rows j ≡ row → ⊥) (λ j. (j < self.now.labels) × (slice_index self.now.rows j ≡ row)) }
+        ensures { LabelOf self.now.labels self.now.rows row result }
     {
         let rows = &self.rows[..self.labels as usize];
         rows.iter().position(|r| *r == row).map(|label| label as u8)
@@ -106,7 +104,7 @@ impl Order {
     fn join_of(&self, a: usize, b: usize) -> Result<u8, KindFault>
         requires a { a < 32 }
         requires b { b < 32 }
-        ensures { MatchResult result (Joins (matrix self.now.labels self.now.rows) a b) (λ f. (f ≡ NoMeetOrJoin) × NoJoin (matrix self.now.labels self.now.rows)) }
+        ensures { let order = matrix self.now.labels self.now.rows in Joined order (Joins order a b) result }
     {
         let labels = self.labels as usize;
         if a < labels && b < labels {
@@ -120,7 +118,7 @@ impl Order {
     // The joins of a with each label.
     fn join_row(&self, a: usize) -> Result<[u8; 32], KindFault>
         requires { a < 32 }
-        ensures { MatchResult result (JoinRow (matrix self.now.labels self.now.rows) a) (λ f. (f ≡ NoMeetOrJoin) × NoJoin (matrix self.now.labels self.now.rows)) }
+        ensures { let order = matrix self.now.labels self.now.rows in Joined order (JoinRow order a) result }
     {
         let mut row = [0; 32];
         for (b, join) in row.iter_mut().enumerate() {
@@ -131,7 +129,7 @@ impl Order {
 
     // The joins of each two labels.
     pub fn joins(&self) -> Result<[[u8; 32]; 32], KindFault>
-        ensures { MatchResult result (JoinTable (matrix self.now.labels self.now.rows)) (λ f. (f ≡ NoMeetOrJoin) × NoJoin (matrix self.now.labels self.now.rows)) }
+        ensures { let order = matrix self.now.labels self.now.rows in Joined order (JoinTable order) result }
     {
         let mut table = [[0; 32]; 32];
         for (a, row) in table.iter_mut().enumerate() {
@@ -149,7 +147,7 @@ impl Order {
 
     // The label at or below every label, where there is one.
     pub fn lowest(&self) -> Option<u32>
-        ensures { MatchOption result ((t : ℕ) → t < self.now.labels → slice_index self.now.rows t ≡ 2 ^ self.now.labels - 1 → ⊥) (λ t. (t < self.now.labels) × (slice_index self.now.rows t ≡ 2 ^ self.now.labels - 1)) }
+        ensures { LabelOf self.now.labels self.now.rows (2 ^ self.now.labels - 1) result }
     {
         self.label_of(self.all()).map(u32::from)
     }

@@ -1,5 +1,5 @@
 use Rattle.std.proofs.Common.{◌<◌, [], refl, inr, rules}
-use Rattle.tables.specs.Matrix.{linked_inside, linked_ordered, linked_keeps, looped, not_looped}
+use Rattle.tables.proofs.Matrix.{linked_inside, linked_ordered, linked_keeps, looped, not_looped}
 use Rattle.tables.proofs.builder.TableBuilder.add.Goals as goal
 
 pub returns-then-closes_loop-clause-pairs : goal.returns-then-closes_loop-clause-pairs

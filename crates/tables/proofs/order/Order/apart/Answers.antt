@@ -1,5 +1,5 @@
 use Rattle.std.proofs.Common.{rules}
-use Rattle.tables.specs.Matrix.{apart_inside, apart_ordered, apart_keeps}
+use Rattle.tables.proofs.Matrix.{apart_inside, apart_ordered, apart_keeps}
 use Rattle.tables.proofs.Links.{alone_rows}
 use Rattle.tables.proofs.order.Order.apart.Goals as goal
 

@@ -1,5 +1,5 @@
 use Rattle.std.proofs.Common.{rules}
-use Rattle.tables.specs.Matrix.{linked_inside, linked_ordered}
+use Rattle.tables.proofs.Matrix.{linked_inside, linked_ordered}
 use Rattle.tables.proofs.Links.{linked_rows}
 use Rattle.tables.proofs.order.Order.link.Goals as goal
 
@@ -10,7 +10,7 @@ invariant_of-self c =
     record {
       sized = self.sized;
       inside = linked_inside _ _ _ _ _ self.inside self.ordered linked;
-      ordered = linked_ordered _ _ _ _ _ self.inside self.ordered linked c.requires.«open»;
+      ordered = linked_ordered _ _ _ _ _ self.inside self.ordered linked c.requires.no_loop;
     }
 
 pub returns-clause-linked : goal.returns-clause-linked

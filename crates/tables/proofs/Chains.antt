@@ -1,6 +1,5 @@
 -- Chains of pairs: reachability, and what one more pair adds to it.
-use Rattle.std.specs.Prelude.{◌≡◌, ℕ, ◌⊎◌, List, [], ◌∷◌, refl}
-use Rattle.std.proofs.Common.{ap, subst, inl, inr, ⊎_elim}
+use Rattle.std.proofs.Common.{◌≡◌, ℕ, ◌⊎◌, List, [], ◌∷◌, refl, ap, subst, inl, inr, ⊎_elim}
 use Rattle.base.specs.Words.{In}
 use Rattle.tables.specs.Table.{Reach, here, step, more}
 
