@@ -11,7 +11,7 @@ use base::contains;
 use std::cmp::Ordering;
 
 // Things in an order. Two different things may be level, as two records of one key are.
-// No `Ord`: a set is a plain u64, and the order of sets is not that of numbers.
+// kept: no `Ord`, since a set is a plain u64 and the order of sets is not that of numbers
 pub trait Ranked: Copy {
     // One comes before the other.
     ghost before: { Self → Self → Type 0 };

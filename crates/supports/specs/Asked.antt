@@ -17,32 +17,36 @@ pub record Asked : Type 1 where
 abbrev pub asked : {L : Type 0} → (L → Entailment) → Question L → Asked
 asked meaning q = record { logic = meaning q.logic.now; records = q.records.now; all = q.all; goal = q.goal }
 
--- the words on supports, of what is asked
-abbrev pub Yields : Asked → ℕ → Type 0
-Yields q = words.Yields q.logic q.records (Has q.all) q.goal
-
-abbrev pub Support : Asked → ℕ → Type 0
-Support q = words.Support q.logic q.records (Has q.all) q.goal
-
-abbrev pub SomeSupports : Asked → List ℕ → Type 0
-SomeSupports q = words.SomeSupports q.logic q.records (Has q.all) q.goal
-
-abbrev pub AllSupports : Asked → List ℕ → Type 0
-AllSupports q = words.AllSupports q.logic q.records (Has q.all) q.goal
-
-abbrev pub MoreThan : Asked → ℕ → Type 0
-MoreThan q = words.MoreThan q.logic q.records (Has q.all) q.goal
-
 -- the first n bytes of the work area are zero
 abbrev pub Clean : ℕ → List ℕ → Type 0
 Clean n area = area ≡ replicate n 0 ++ drop n area
 
--- the logic answers the question, and finds its part of the work area clean
-pub record Ready (q : Asked) (area : List ℕ) : Type 0 where
-  pub askable : Askable q.logic q.records q.all q.goal (length area)
-  pub clean : Clean q.logic.bytes area
+module _ (q : Asked) where
+  -- the goal follows from the axioms of a set
+  abbrev pub Yields : ℕ → Type 0
+  Yields = words.Yields q.logic q.records (Has q.all) q.goal
 
--- the first `count` places hold supports that are known
-pub record Known (q : Asked) (places : List ℕ) (count : ℕ) : Type 0 where
-  pub few : count ≤ length places
-  pub supports : SomeSupports q (take count places)
+  -- a minimal set of axioms in force that yields it
+  abbrev pub Support : ℕ → Type 0
+  Support = words.Support q.logic q.records (Has q.all) q.goal
+
+  -- some supports, or all of them, once each, ascending
+  abbrev pub SomeSupports : List ℕ → Type 0
+  SomeSupports = words.SomeSupports q.logic q.records (Has q.all) q.goal
+
+  abbrev pub AllSupports : List ℕ → Type 0
+  AllSupports = words.AllSupports q.logic q.records (Has q.all) q.goal
+
+  -- there are more supports than places
+  abbrev pub MoreThan : ℕ → Type 0
+  MoreThan = words.MoreThan q.logic q.records (Has q.all) q.goal
+
+  -- the logic answers the question, and finds its part of the work area clean
+  pub record Ready (area : List ℕ) : Type 0 where
+    pub askable : Askable q.logic q.records q.all q.goal (length area)
+    pub clean : Clean q.logic.bytes area
+
+  -- the first `count` places hold supports that are known
+  pub record Known (places : List ℕ) (count : ℕ) : Type 0 where
+    pub few : count ≤ length places
+    pub supports : SomeSupports (take count places)

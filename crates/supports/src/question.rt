@@ -53,7 +53,7 @@ impl<'a, L: Logic> Question<'a, L> {
         ensures area { area.new ≡ area.old }
     {
         let mut left = set;
-        // no `fold`: a proof knows nothing of what its closure leaves in the work area
+        // kept: a loop, since a proof knows nothing of what the closure of a `fold` leaves in the work area
         for place in 0..64 {
             left = self.drop_one(left, place, area);
         }

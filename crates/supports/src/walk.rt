@@ -6,8 +6,8 @@ use base::{contains, with_place};
 use logics::Logic;
 use ordered::NoRoom;
 
-// The places stay a slice with a count beside it: a struct that holds the slice needs more clauses, which say that it still
-// holds that slice.
+// kept: the places as a slice with a count beside it, since a struct that holds the slice needs one clause more in each method, which
+// says that it still holds that slice
 impl<'a, L: Logic> Question<'a, L> {
     ghost use Rattle.supports.specs.Asked.{asked, Yields, AllSupports, MoreThan, Ready, Known};
     ghost use Rattle.supports.specs.Search.{HitsAll, Earlier};
@@ -84,6 +84,7 @@ impl<'a, L: Logic> Question<'a, L> {
         };
         // the axioms of `may` that a branch may take: those of the support only before the axiom that it branches by
         let mut allowed = may & !support;
+        // kept: a loop over numbers, since a set is no slice
         for x in 0..64 {
             if contains(may & support, x) {
                 known = self.visit(with_place(out, x), allowed, places, known, area)?;
