@@ -1,6 +1,5 @@
 -- The lines up to the logic.
 use Rattle.std.proofs.Common.{◌≡◌, ℕ, ◌+◌, cond, eqb, List, [], ◌∷◌, ◌++◌, drop, sym, refl, ap, ◌∙◌, subst, inl, inr, arith}
-use Rattle.std.proofs.lemmas.List.{drop_all}
 use Rattle.labels.specs.Order.{LabelOrder, Same}
 use Rattle.engine.specs.declared.call.Call.{Call}
 use Rattle.lines.specs.declared.form.Form.{Form}
@@ -14,7 +13,7 @@ use Rattle.report.specs.declared.any.AnyKind.{AnyKind}
 use Rattle.report.specs.declared.any.AnyLogic.{AnyLogic}
 use Rattle.report.specs.declared.any.AnyLogic.TheVariants.{El, Links}
 use Rattle.report.specs.declared.fault.Cause.{Cause}
-use Rattle.report.specs.declared.place.Place.{Place}
+use Rattle.report.specs.declared.reader.Reader.{Reader}
 use Rattle.report.specs.Any.{any_kind}
 use Rattle.report.specs.Meaning.{calls_by, booked, book_of}
 use Rattle.report.specs.Checks.{Refuses, early}
@@ -32,10 +31,9 @@ module _ (p w : ℕ) (ls : List Line) (x : Line) (f : Form) (is : x.form ≡ f) 
   calm_prints none prints = prints_more p w [] ls x [] [] prints (subst (λ (h : Form). LinePrints p w h (ls ++ (x ∷ [])) x []) (sym is) none)
 
 -- before the logic, a file may not end
-pub stops_early : (p w : ℕ) (file : List ℕ) (place : Place) (ls : List Line) → Stands p w file place ls → lines_of 2 ls ≡ [] → (c : Cause) → Stops file place c → Refuses p w file (place.lines + 1) c
-stops_early p w file place ls stands none c (inl (past, is)) =
-    subst (Refuses p w file (place.lines + 1)) (sym is) (refused_here p w file place ls stands _ (early (drop_all place.at file past) none))
-stops_early p w file place ls stands none c (inr (more, (f, fails, is))) = subst (Refuses p w file (place.lines + 1)) (sym is) (refused_text p w file place ls stands f more fails)
+pub stops_early : {p w : ℕ} {file : List ℕ} {reader : Reader} {ls : List Line} → Stands p w file reader ls → lines_of 2 ls ≡ [] → {c : Cause} → Stops reader c → Refuses p w file (reader.lines + 1) c
+stops_early {p} {w} {file} {reader} stands none (inl (past, is)) = subst (Refuses p w file (reader.lines + 1)) (sym is) (refused_here stands (early past none))
+stops_early {p} {w} {file} {reader} stands none (inr (some, (f, fails, is))) = subst (Refuses p w file (reader.lines + 1)) (sym is) (refused_text stands some fails)
 
 -- the line of the logic is the only one of its section
 logic_named : (ls : List Line) (x : Line) → lines_of 2 ls ≡ [] → section x.form ≡ 2 → lines_of 2 (ls ++ (x ∷ [])) ≡ x ∷ []
@@ -51,9 +49,9 @@ logic_form : (x : Line) (l : AnyLogic) → LogicChosen x l → (p w : ℕ) (ls :
 logic_form x (El l) (form, _, _) p w ls quiet = (calm_book p w ls x (LogicLine ElLine) form refl, calm_prints p w ls x (LogicLine ElLine) form refl quiet.prints)
 logic_form x (Links l) (form, _) p w ls quiet = (calm_book p w ls x (LogicLine LinksLine) form refl, calm_prints p w ls x (LogicLine LinksLine) form refl quiet.prints)
 
-pub logic_opened : (p w : ℕ) (file : List ℕ) (place : Place) (ls : List Line) (k : AnyKind) → KindRead p w file place ls k → (x : Found) → Gets file place x → (l : AnyLogic) → LogicChosen x.line l → Opened p w (ls ++ (x.line ∷ [])) k l
-logic_opened p w file place ls k read x gets l chosen =
-    let two : section x.line.form ≡ 2 = read.next x.line (drop (place.at + x.length) file) gets.next in
+pub logic_opened : {p w : ℕ} {file : List ℕ} {reader : Reader} {ls : List Line} {k : AnyKind} → KindRead p w file reader ls k → {x : Found} → Gets reader x → (l : AnyLogic) → LogicChosen x.line l → Opened p w (ls ++ (x.line ∷ [])) k l
+logic_opened {p} {w} {reader = reader} {ls} {k} read {x} gets l chosen =
+    let two : section x.line.form ≡ 2 = read.next x.line (drop x.length reader.rest.now) gets.next in
     let (book, prints) = logic_form x.line l chosen p w ls read.quiet in
     record {
       late = (x.line.form, last_form_append ls x.line, omega arith);

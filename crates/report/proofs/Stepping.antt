@@ -1,5 +1,5 @@
 -- What a call of the sheet shows of the line that it is made for.
-use Rattle.std.proofs.Common.{◌≡◌, ℕ, ◌<◌, ◌≤◌, List, [], ◌∷◌, ◌++◌, length, Ok, Err, Result, sym, ap, ◌∙◌, subst, ap₂, inl, inr, arith, length-take-le}
+use Rattle.std.proofs.Common.{◌≡◌, ℕ, ◌<◌, ◌≤◌, List, [], ◌∷◌, ◌++◌, length, Ok, Err, Result, sym, ap, ◌∙◌, subst, ap₂, inl, inr, arith}
 use Rattle.std.proofs.lemmas.List.{length-map}
 use Rattle.base.specs.Words.{In}
 use Rattle.base.specs.Checks.{FirstOf, NoneOf}
@@ -14,8 +14,6 @@ use Rattle.engine.specs.Book.{Book, after}
 use Rattle.engine.specs.Law.{checks, FirstOf as SheetFirst, NoneOf as SheetNone, RefusedBy, Accepted, Lawfully, Answered, Next}
 use Rattle.engine.specs.Keeps.{Keeps}
 use Rattle.engine.specs.Obeys.{held, shown}
-use Rattle.engine.specs.declared.table.AxiomTable.{AxiomTable}
-use Rattle.engine.specs.declared.rows.RowTable.{RowTable}
 use Rattle.engine.specs.declared.call.SheetFault.{SheetFault}
 use Rattle.engine.specs.declared.call.Call.{Call}
 use Rattle.engine.specs.declared.call.Call.TheVariants.{Enter}
@@ -28,18 +26,18 @@ use Rattle.lines.specs.Lines.{lines_of}
 use Rattle.report.specs.declared.any.AnyKind.{AnyKind}
 use Rattle.report.specs.declared.any.AnyLogic.{AnyLogic}
 use Rattle.report.specs.declared.any.AnyLogic.TheVariants.{El, Links}
+use Rattle.report.specs.declared.desk.Desk.{Desk}
 use Rattle.report.specs.declared.fault.Cause.{Cause}
 use Rattle.report.specs.declared.fault.Cause.TheVariants.{Sheet}
-use Rattle.report.specs.declared.users.Users.{Users}
 use Rattle.report.specs.Any.{any_kind, any_logic}
 use Rattle.report.specs.Meaning.{at, calls_by, booked, kind_of, logic_by, first_logic, logic_of, book_of, users_of}
 use Rattle.report.specs.Checks.{of_sheet, checks_by, line_checks, user_count}
-use Rattle.report.specs.Stands.{Named, taken, Keeping, Settles}
+use Rattle.report.specs.Stands.{Named, Keeping, Settles}
 use Rattle.report.proofs.Standing.{lines_of_same, kind_of_same, book_of_more}
 use Rattle.report.proofs.Sames.{label_same}
 
 -- a line's checks and calls are those of its form
-module _ (p w : ℕ) (before : List Line) (x : Line) (behind : List ℕ) (f : Form) (is : x.form ≡ f) where
+module _ (p w : ℕ) (before : List Line) (x : Line) (behind : List ℕ) {f : Form} (is : x.form ≡ f) where
   pub first_by : (c : Cause) → FirstOf (checks_by p w f before x behind) c → FirstOf (line_checks p w before x behind) c
   first_by c first = subst (λ (h : Form). FirstOf (checks_by p w h before x behind) c) (sym is) first
 
@@ -130,19 +128,22 @@ module _ (k h : LabelOrder) (s : Same k h) (l : Entailment) (b : Book) (r : Reco
   pub enter_none : Accepted k l b (Enter r a) → Accepted h l b (Enter r a)
   enter_none (some, (takes, (label, rest))) = (some, (takes, ((λ none. label (λ lab. none (label_same k h s a lab))), rest)))
 
+-- the logic of a desk is the one that the lines name
+pub logic_is : {p w : ℕ} {before : List Line} {desk : Desk} → Keeping p w before desk → any_logic desk.sheet.logic ≡ logic_of before
+logic_is {before = before} {desk} keeping = named_logic desk.sheet.logic before keeping.logic
+
 -- one line more, behind the logic
-pub keeping_more : (p w : ℕ) (before : List Line) (k : AnyKind) (l : AnyLogic) (axioms : AxiomTable) (rows : RowTable) (us : Users) → Keeping p w before k l axioms rows us
-    → (x : Line) → 3 ≤ section x.form → (k' : AnyKind) → k' ≡ k → (l' : AnyLogic) → l' ≡ l → (axioms' : AxiomTable) (rows' : RowTable)
-    → Keeps (any_kind k) (any_logic l) (book_of p w (before ++ (x ∷ []))) (held axioms') (shown rows') → (us' : Users) → taken us' ≡ users_of (before ++ (x ∷ []))
-    → ((u : ℕ) → In u (users_of (before ++ (x ∷ []))) → JoinPrime (kind_of before) u) → Keeping p w (before ++ (x ∷ [])) k' l' axioms' rows' us'
-keeping_more p w before k l axioms rows us keeping x late k' ke l' le axioms' rows' keeps us' users admitted =
-    let some : 0 < length before = not_empty before (named_some l before keeping.logic) in
+pub keeping_more : {p w : ℕ} {before : List Line} {desk : Desk} → Keeping p w before desk → (x : Line) → 3 ≤ section x.form → (desk' : Desk) → desk'.sheet.kind ≡ desk.sheet.kind → desk'.sheet.logic ≡ desk.sheet.logic
+    → Keeps (any_kind desk.sheet.kind) (any_logic desk.sheet.logic) (book_of p w (before ++ (x ∷ []))) (held desk'.sheet.axioms) (shown desk'.sheet.rows)
+    → desk'.users.items ≡ users_of (before ++ (x ∷ [])) → ((u : ℕ) → In u (users_of (before ++ (x ∷ []))) → JoinPrime (kind_of before) u) → Keeping p w (before ++ (x ∷ [])) desk'
+keeping_more {p} {w} {before} {desk} keeping x late desk' ke le keeps users admitted =
+    let some : 0 < length before = not_empty before (named_some desk.sheet.logic before keeping.logic) in
     let same : kind_of (before ++ (x ∷ [])) ≡ kind_of before = kind_of_same before x some (λ e. omega arith) in
     record {
-      kind = subst (λ (h : LabelOrder). Same (any_kind k') h) (sym same) (subst (λ (h : AnyKind). Same (any_kind h) (kind_of before)) (sym ke) keeping.kind);
-      logic = named_more l' before x (λ e. omega arith) (subst (λ (h : AnyLogic). Named h before) (sym le) keeping.logic);
-      book = subst (λ (h : AnyKind). Keeps (any_kind h) (any_logic l') (book_of p w (before ++ (x ∷ []))) (held axioms') (shown rows')) (sym ke)
-          (subst (λ (h : AnyLogic). Keeps (any_kind k) (any_logic h) (book_of p w (before ++ (x ∷ []))) (held axioms') (shown rows')) (sym le) keeps);
+      kind = subst (λ (h : LabelOrder). Same (any_kind desk'.sheet.kind) h) (sym same) (subst (λ (h : AnyKind). Same (any_kind h) (kind_of before)) (sym ke) keeping.kind);
+      logic = named_more desk'.sheet.logic before x (λ e. omega arith) (subst (λ (h : AnyLogic). Named h before) (sym le) keeping.logic);
+      book = subst (λ (h : AnyKind). Keeps (any_kind h) (any_logic desk'.sheet.logic) (book_of p w (before ++ (x ∷ []))) (held desk'.sheet.axioms) (shown desk'.sheet.rows)) (sym ke)
+          (subst (λ (h : AnyLogic). Keeps (any_kind desk.sheet.kind) (any_logic h) (book_of p w (before ++ (x ∷ []))) (held desk'.sheet.axioms) (shown desk'.sheet.rows)) (sym le) keeps);
       users = users;
       admitted = λ u i. subst (λ (h : LabelOrder). JoinPrime h u) (sym same) (admitted u i);
     }
@@ -153,6 +154,5 @@ settles_and cs (Ok _) Done Also (none, done) also = (none, (done, also))
 settles_and cs (Err c) Done Also first also = first
 
 -- as many users as lines name
-pub users_counted : (p w : ℕ) (before : List Line) (k : AnyKind) (l : AnyLogic) (axioms : AxiomTable) (rows : RowTable) (us : Users) → Keeping p w before k l axioms rows us → us.count ≡ user_count before
-users_counted p w before k l axioms rows us keeping =
-    sym (length-take-le us.count us.labels (omega arith)) ∙ ap length keeping.users ∙ length-map (lines_of 4 before) (λ x. at x 0)
+pub users_counted : {p w : ℕ} {before : List Line} {desk : Desk} → Keeping p w before desk → length desk.users.items ≡ user_count before
+users_counted {before = before} keeping = ap length keeping.users ∙ length-map (lines_of 4 before) (λ x. at x 0)

@@ -1,6 +1,6 @@
--- What the reader of a file holds of the lines that it has read. These are the words of its inner contracts: no meaning
+-- What a reader and a desk hold of the lines that have been read. These are the words of the inner contracts: no meaning
 -- rests on them.
-use Rattle.std.specs.Prelude.{◌≡◌, ℕ, ◌+◌, ◌<◌, ◌≤◌, Bool, ◌⊎◌, List, [], ◌∷◌, ◌++◌, length, take, drop, Some, Ok, Err, Option, Result}
+use Rattle.std.specs.Prelude.{◌≡◌, ℕ, ◌+◌, ◌<◌, ◌≤◌, Bool, ◌⊎◌, List, [], ◌∷◌, ◌++◌, length, take, drop, Some, Ok, Err, Option, Result, ◌≢◌}
 use Rattle.base.specs.Words.{In}
 use Rattle.base.specs.Checks.{FirstOf, NoneOf}
 use Rattle.labels.specs.Order.{JoinPrime, Same}
@@ -11,8 +11,6 @@ use Rattle.logics.specs.Entailment.{Goal}
 use Rattle.engine.specs.Book.{blank}
 use Rattle.engine.specs.Keeps.{Keeps}
 use Rattle.engine.specs.Obeys.{held, shown}
-use Rattle.engine.specs.declared.table.AxiomTable.{AxiomTable}
-use Rattle.engine.specs.declared.rows.RowTable.{RowTable}
 use Rattle.prints.specs.Output.{Printed, Adds}
 use Rattle.prints.specs.Print.{sight_lines}
 use Rattle.lines.specs.declared.fault.TextFault.{TextFault}
@@ -29,41 +27,41 @@ use Rattle.lines.specs.Reading.{Next, TextFails}
 use Rattle.report.specs.declared.any.AnyKind.{AnyKind}
 use Rattle.report.specs.declared.any.AnyLogic.{AnyLogic}
 use Rattle.report.specs.declared.any.AnyLogic.TheVariants.{El, Links}
+use Rattle.report.specs.declared.desk.Desk.{Desk}
 use Rattle.report.specs.declared.fault.Cause.{Cause}
 use Rattle.report.specs.declared.fault.Cause.TheVariants.{Text, Kind}
 use Rattle.report.specs.declared.fault.ReportFault.{ReportFault}
-use Rattle.report.specs.declared.place.Place.{Place}
-use Rattle.report.specs.declared.users.Users.{Users}
+use Rattle.report.specs.declared.reader.Reader.{Reader}
 use Rattle.report.specs.Any.{any_kind, any_logic}
 use Rattle.report.specs.Meaning.{at, pairs, kind_of, logic_of, book_of, users_of}
 use Rattle.report.specs.Checks.{PairNext, user_count, line_checks, Good, Refuses}
 use Rattle.report.specs.Report.{Seen, LinePrints, Prints, PrintOf, Refused}
 
--- the line that was found is the next one of the file
-pub record Gets (file : List ℕ) (place : Place) (x : Found) : Type 0 where
+-- the line that was found is the next one
+pub record Gets (reader : Reader) (x : Found) : Type 0 where
   pub some : 0 < x.length
-  pub within : place.at + x.length ≤ length file
-  pub next : Next place.last place.users (drop place.at file) x.line (drop (place.at + x.length) file)
+  pub within : x.length ≤ length reader.rest.now
+  pub next : Next reader.last reader.users reader.rest.now x.line (drop x.length reader.rest.now)
 
 -- the file ends, or its next line is refused
-abbrev pub Stops : List ℕ → Place → Cause → Type 0
-Stops file place c =
-    ((length file ≤ place.at) × (c ≡ Text Misplaced)) ⊎ ((place.at < length file) × ((f : TextFault) × TextFails place.last place.users (drop place.at file) f × (c ≡ Text f)))
+abbrev pub Stops : Reader → Cause → Type 0
+Stops reader c =
+    ((reader.rest.now ≡ []) × (c ≡ Text Misplaced)) ⊎ ((reader.rest.now ≢ []) × ((f : TextFault) × TextFails reader.last reader.users reader.rest.now f × (c ≡ Text f)))
 
 -- these lines have been read, and are good
-pub record Stands (p w : ℕ) (file : List ℕ) (place : Place) (before : List Line) : Type 0 where
-  pub bytes : file ≡ written before ++ drop place.at file
-  pub good : Good p w [] before (drop place.at file)
-  pub lines : place.lines ≡ length before
-  pub last : place.last ≡ last_form before
-  pub users : place.users ≡ user_count before
+pub record Stands (p w : ℕ) (file : List ℕ) (reader : Reader) (before : List Line) : Type 0 where
+  pub bytes : file ≡ written before ++ reader.rest.now
+  pub good : Good p w [] before reader.rest.now
+  pub lines : reader.lines ≡ length before
+  pub last : reader.last ≡ last_form before
+  pub users : reader.users ≡ user_count before
 
--- the place after one line more
-pub record Advanced (place : Place) (x : Found) (place' : Place) : Type 0 where
-  pub at : place'.at ≡ place.at + x.length
-  pub lines : place'.lines ≡ place.lines + 1
-  pub last : place'.last ≡ last_form (x.line ∷ [])
-  pub users : place'.users ≡ place.users + user_count (x.line ∷ [])
+-- the reader after one line more
+pub record Advanced (reader : Reader) (x : Found) (reader' : Reader) : Type 0 where
+  pub rest : reader'.rest.now ≡ drop x.length reader.rest.now
+  pub lines : reader'.lines ≡ reader.lines + 1
+  pub last : reader'.last ≡ last_form (x.line ∷ [])
+  pub users : reader'.users ≡ reader.users + user_count (x.line ∷ [])
 
 -- the logic is the one that the G line names
 abbrev pub Named : AnyLogic → List Line → Type 0
@@ -84,23 +82,19 @@ pub record Opened (p w : ℕ) (before : List Line) (k : AnyKind) (l : AnyLogic) 
   pub users : users_of before ≡ []
   pub prints : Prints p w [] before []
 
--- the labels in use
-abbrev pub taken : Users → List ℕ
-taken us = take us.count us.labels
-
--- a sheet and users hold what the lines say
-pub record Keeping (p w : ℕ) (before : List Line) (k : AnyKind) (l : AnyLogic) (axioms : AxiomTable) (rows : RowTable) (us : Users) : Type 0 where
-  pub kind : Same (any_kind k) (kind_of before)
-  pub logic : Named l before
-  pub book : Keeps (any_kind k) (any_logic l) (book_of p w before) (held axioms) (shown rows)
-  pub users : taken us ≡ users_of before
+-- sheet and users hold what the lines say
+pub record Keeping (p w : ℕ) (before : List Line) (desk : Desk) : Type 0 where
+  pub kind : Same (any_kind desk.sheet.kind) (kind_of before)
+  pub logic : Named desk.sheet.logic before
+  pub book : Keeps (any_kind desk.sheet.kind) (any_logic desk.sheet.logic) (book_of p w before) (held desk.sheet.axioms) (shown desk.sheet.rows)
+  pub users : desk.users.items ≡ users_of before
   pub admitted : (u : ℕ) → In u (users_of before) → JoinPrime (kind_of before) u
 
 -- the lines that were read behind the logic, and what they printed
-pub record Along (p w : ℕ) (file out : List ℕ) (place : Place) (ls : List Line) (k : AnyKind) (l : AnyLogic) (axioms : AxiomTable) (rows : RowTable) (us : Users) (n : Option ℕ) (out' : List ℕ) : Type 0 where
-  pub stands : Stands p w file place ls
+pub record Along (p w : ℕ) (file out : List ℕ) (reader : Reader) (ls : List Line) (desk : Desk) (n : Option ℕ) (out' : List ℕ) : Type 0 where
+  pub stands : Stands p w file reader ls
   pub late : Late ls
-  pub keeping : Keeping p w ls k l axioms rows us
+  pub keeping : Keeping p w ls desk
   pub told : List ℕ
   pub prints : Prints p w [] ls told
   pub printed : Printed told out n out'
@@ -134,8 +128,8 @@ abbrev pub LinePrinted : ℕ → ℕ → List Line → Line → Option ℕ → L
 LinePrinted p w before x m out n out' = (s : List ℕ) × LinePrints p w x.form (before ++ (x ∷ [])) x s × Adds s m out n out'
 
 -- the next line, if there is one that may stand there, names a logic
-abbrev pub LogicNext : List ℕ → Place → Type 0
-LogicNext file place = (x : Line) (behind : List ℕ) → Next place.last place.users (drop place.at file) x behind → section x.form ≡ 2
+abbrev pub LogicNext : Reader → Type 0
+LogicNext reader = (x : Line) (behind : List ℕ) → Next reader.last reader.users reader.rest.now x behind → section x.form ≡ 2
 
 -- no logic, axiom, user or goal has come yet
 pub record Quiet (p w : ℕ) (ls : List Line) : Type 0 where
@@ -145,16 +139,16 @@ pub record Quiet (p w : ℕ) (ls : List Line) : Type 0 where
   pub prints : Prints p w [] ls []
 
 -- lines that name a kind, and nothing else
-pub record KindRead (p w : ℕ) (file : List ℕ) (place : Place) (before : List Line) (k : AnyKind) : Type 0 where
-  pub stands : Stands p w file place before
+pub record KindRead (p w : ℕ) (file : List ℕ) (reader : Reader) (before : List Line) (k : AnyKind) : Type 0 where
+  pub stands : Stands p w file reader before
   pub kind : Same (any_kind k) (kind_of before)
   pub some : 0 < length before
-  pub next : LogicNext file place
+  pub next : LogicNext reader
   pub quiet : Quiet p w before
 
 -- a table's pairs up to the line that was found last, whose checks pass but for meets and joins
-pub record TableRead (p w : ℕ) (file : List ℕ) (place : Place) (x : Line) (labels : ℕ) (rows : List ℕ) (before : List Line) : Type 0 where
-  pub stands : Stands p w file place before
+pub record TableRead (p w : ℕ) (file : List ℕ) (reader : Reader) (x : Line) (labels : ℕ) (rows : List ℕ) (before : List Line) : Type 0 where
+  pub stands : Stands p w file reader before
   pub first : Line
   pub others : List Line
   pub all : before ++ (x ∷ []) ≡ first ∷ others

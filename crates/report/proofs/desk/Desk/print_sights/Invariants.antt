@@ -5,11 +5,11 @@ use Rattle.lines.specs.declared.form.Line.{Line}
 use Rattle.report.specs.Meaning.{kind_of, logic_of, book_of}
 use Rattle.report.specs.Report.{Seen}
 use Rattle.report.specs.Stands.{Keeping, Shows}
-use Rattle.report.proofs.step.print_sights.Given as goal
+use Rattle.report.proofs.desk.Desk.print_sights.Given as goal
 
 -- the answers to the users so far are printed
-abbrev pub invariant-loop-i : goal.invariant-loop-i
-invariant-loop-i l =
-    (p w : ℕ) (before : List Line) → Keeping p w before l.sheet.kind l.sheet.logic l.sheet.axioms l.sheet.rows l.users → Shows p w before l.goal
-    → (seen : List (ℕ × Bool)) × Seen (kind_of before) (logic_of before) (book_of p w before) l.goal (take l.i l.users.labels) seen
+abbrev pub invariant-loop-user : goal.invariant-loop-user
+invariant-loop-user l =
+    (p w : ℕ) (before : List Line) → Keeping p w before l.self → Shows p w before l.goal
+    → (seen : List (ℕ × Bool)) × Seen (kind_of before) (logic_of before) (book_of p w before) l.goal (take l.user-index l.user-items) seen
     × Adds (sight_lines l.goal seen) l.initial.print.length l.initial.out l.print.length l.out
