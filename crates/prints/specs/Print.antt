@@ -1,5 +1,6 @@
 -- What a report says of a goal: lines of fields, each line ended by the byte 10, with a comma, 44, before each field after the first.
 use Rattle.std.specs.Prelude.{ℕ, zero, suc, ◌+◌, ◌/◌, ◌%◌, ◌^◌, Bool, true, false, cond, List, [], ◌∷◌, ◌++◌, map, Some, None, codes, decimal, Option, ◌==◌}
+use Rattle.std.specs.List.{flat_map}
 use Rattle.base.specs.Commas.{tails}
 
 -- a goal is two numbers
@@ -43,13 +44,11 @@ sight_line g u seen = codes "V" ++ (numbers (u ∷ g.0 ∷ g.1 ∷ []) ++ (44 �
 
 -- the lines of a goal's supports
 abbrev pub support_lines : Goal → List ℕ → List ℕ
-support_lines g [] = []
-support_lines g (s ∷ ss) = support_line g s ++ support_lines g ss
+support_lines g = flat_map (support_line g)
 
 -- the lines of the users, each with whether it sees the goal
 abbrev pub sight_lines : Goal → List (ℕ × Bool) → List ℕ
-sight_lines g [] = []
-sight_lines g (user ∷ users) = sight_line g user.0 user.1 ++ sight_lines g users
+sight_lines g = flat_map (λ user. sight_line g user.0 user.1)
 
 -- what is printed for a goal
 abbrev pub block : Goal → Option ℕ → List ℕ → List (ℕ × Bool) → List ℕ

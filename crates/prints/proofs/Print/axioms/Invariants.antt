@@ -4,4 +4,4 @@ use Rattle.prints.proofs.Print.axioms.Given as goal
 
 -- the axioms so far are added
 abbrev pub invariant-loop-place : goal.invariant-loop-place
-invariant-loop-place l = Adds (numbers (upto l.set l.place)) l.initial.self.length l.initial.out l.self.length l.out
+invariant-loop-place l = Adds (numbers (upto l.set l.place)) l.initial.self l.self

@@ -5,4 +5,4 @@ use Rattle.prints.proofs.Print.support_lines.Given as goal
 
 -- the lines so far are added
 abbrev pub invariant-loop-support : goal.invariant-loop-support
-invariant-loop-support l = Adds (support_lines l.goal (take l.support-index l.supports)) l.initial.self.length l.initial.out l.self.length l.out
+invariant-loop-support l = Adds (support_lines l.goal (take l.support-index l.supports)) l.initial.self l.self

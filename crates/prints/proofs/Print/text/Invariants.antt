@@ -4,4 +4,4 @@ use Rattle.prints.proofs.Print.text.Given as goal
 
 -- the bytes so far are added
 abbrev pub invariant-loop-b : goal.invariant-loop-b
-invariant-loop-b l = Adds (take l.b-index l.bytes) l.initial.self.length l.initial.out l.self.length l.out
+invariant-loop-b l = Adds (take l.b-index l.bytes) l.initial.self l.self
