@@ -6,7 +6,9 @@ use Rattle.base.specs.Words.{In}
 use Rattle.engine.specs.Book.{Book, blank}
 use Rattle.engine.specs.Keeps.{Keeps}
 use Rattle.engine.specs.Obeys.{held, shown}
-use Rattle.prints.specs.Output.{Printed}
+use Rattle.prints.specs.declared.Print.{Print}
+use Rattle.prints.specs.Output.{Adds}
+use Rattle.prints.proofs.Adding.{adds_both}
 use Rattle.lines.specs.declared.fault.TextFault.{TextFault}
 use Rattle.lines.specs.declared.form.Form.{Form}
 use Rattle.lines.specs.declared.form.Line.{Line}
@@ -58,10 +60,10 @@ module _ {p w : ℕ} {file : List ℕ} {reader : Reader} {ls : List Line} (stand
       let (after, few) = subst (λ (h : Option Form). May h (user_count ls) x.line.form) is (by_lines (λ last users. May last users x.line.form) gets.next.may) in
       (elim after [ inl (early, _) ↦ absurd (omega arith) | inr (_, three, _) ↦ three ], few)
 
-module _ {p w : ℕ} {file out : List ℕ} {reader : Reader} {ls : List Line} {desk : Desk} {n : Option ℕ} {out' : List ℕ} (along : Along p w file out reader ls desk n out') where
+module _ {p w : ℕ} {file : List ℕ} {begun : Print} {reader : Reader} {ls : List Line} {desk : Desk} {print : Print} (along : Along p w file begun reader ls desk print) where
   module _ {x : Found} (gets : Gets reader x) where
     pub along_more : NoneOf (line_checks p w ls x.line (drop x.length reader.rest.now)) → {desk' : Desk} → Keeping p w (ls ++ (x.line ∷ [])) desk'
-        → {n' : Option ℕ} {out'' : List ℕ} → LinePrinted p w ls x.line n out' n' out'' → {reader' : Reader} → Advanced reader x reader' → Along p w file out reader' (ls ++ (x.line ∷ [])) desk' n' out''
+        → {print' : Print} → LinePrinted p w ls x.line print print' → {reader' : Reader} → Advanced reader x reader' → Along p w file begun reader' (ls ++ (x.line ∷ [])) desk' print'
     along_more none keeping (s, prints, adds) moved =
         let (three, _) = late_line along.stands along.late gets in
         record {
@@ -70,7 +72,7 @@ module _ {p w : ℕ} {file out : List ℕ} {reader : Reader} {ls : List Line} {d
           keeping = keeping;
           told = along.told ++ s;
           prints = prints_more p w [] ls x.line along.told s along.prints prints;
-          printed = adds.behind along.told out along.printed;
+          printed = adds_both along.printed adds;
         }
 
     -- a line's step, with as many places and bytes
@@ -84,7 +86,7 @@ module _ {p w : ℕ} {file out : List ℕ} {reader : Reader} {ls : List Line} {d
         subst (λ (q : ℕ). Step q w Outcome) pe (subst (λ (v : ℕ). Step p' v Outcome) we step) ls (drop x.length reader.rest.now) three few along.keeping
 
   -- no byte is left
-  pub along_ends : reader.rest.now ≡ [] → (t : List ℕ) × PrintOf p w file t × Printed t out n out'
+  pub along_ends : reader.rest.now ≡ [] → (t : List ℕ) × PrintOf p w file t × Adds t begun print
   along_ends empty = (
     along.told,
     record {

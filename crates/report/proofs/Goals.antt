@@ -1,8 +1,8 @@
 -- The step of a goal's line.
 use Rattle.std.proofs.Common.{◌≡◌, ℕ, ◌-◌, ◌<◌, Bool, true, false, cond, eqb, List, [], ◌∷◌, ◌++◌, length, take, replicate, Ok, Err, Option, Result, sym, refl, ap, ◌∙◌, subst, ap₂, inl, inr, arith, eqb-true}
-use native.Mathlib.Nat.{sub-zero}
 use native.Mathlib.Decide.{dec_lt}
 use Rattle.std.proofs.lemmas.List.{take_at}
+use Rattle.prints.specs.declared.Print.{Print}
 use Rattle.prints.specs.Output.{Adds}
 use Rattle.prints.specs.Print.{boundary_line, support_lines, block}
 use Rattle.prints.proofs.Adding.{adds_both}
@@ -65,7 +65,7 @@ pub record PublishDone (p w : ℕ) (before : List Line) (desk : Desk) (x : Line)
   pub shows : Shows p w (before ++ (x ∷ [])) (two x)
   pub lawful : Lawful (kind_of (before ++ (x ∷ [])))
   pub supports : (d e : Buffers) → SearchLeaves (any_kind desk.sheet.kind) (any_logic desk.sheet.logic) (book_of p w before) (two x) (Count n) d e
-      → AllSupports (logic_of (before ++ (x ∷ []))) (book_of p w (before ++ (x ∷ []))) (two x) (take (n - 0) e.places)
+      → AllSupports (logic_of (before ++ (x ∷ []))) (book_of p w (before ++ (x ∷ []))) (two x) (take n e.places)
 
 module _ {p w : ℕ} {before : List Line} {desk : Desk} (keeping : Keeping p w before desk) where
   -- the desk's kind and logic, and the book
@@ -120,15 +120,15 @@ module _ {p w : ℕ} {before : List Line} {desk : Desk} (keeping : Keeping p w b
       )
 
       -- the places hold the supports
-      publish_supports : (d e : Buffers) → SearchLeaves k l b (two x) (Count n) d e → AllSupports (logic_of ls) (book_of p w ls) (two x) (take (n - 0) e.places)
+      publish_supports : (d e : Buffers) → SearchLeaves k l b (two x) (Count n) d e → AllSupports (logic_of ls) (book_of p w ls) (two x) (take n e.places)
       publish_supports d e leaves =
           let (ss, all, count) = accepted.1 in
           let (ts, others, filled) = leaves.0 in
           let same : ss ≡ ts = (determined k (any_lawful desk.sheet.kind) l).supports b (two x) ss ts all others in
-          let many : length ts ≡ n - 0 = ap length (sym same) ∙ sym (let e : n ≡ length ss = cc in e) ∙ sym (sub-zero n) in
-          let front : take (n - 0) e.places ≡ ts = ap (take (n - 0)) filled ∙ take_at ts (replicate (length d.places - length ts) 0) (n - 0) many in
-          subst (λ (h : Entailment). AllSupports h (book_of p w ls) (two x) (take (n - 0) e.places)) same_logic
-          (subst (λ (c : Book). AllSupports l c (two x) (take (n - 0) e.places)) (sym booked_now) (subst (AllSupports l b (two x)) (sym front) others))
+          let many : length ts ≡ n = ap length (sym same) ∙ sym (let e : n ≡ length ss = cc in e) in
+          let front : take n e.places ≡ ts = ap (take n) filled ∙ take_at ts (replicate (length d.places - length ts) 0) n many in
+          subst (λ (h : Entailment). AllSupports h (book_of p w ls) (two x) (take n e.places)) same_logic
+          (subst (λ (c : Book). AllSupports l c (two x) (take n e.places)) (sym booked_now) (subst (AllSupports l b (two x)) (sym front) others))
 
       pub publish_done : PublishDone p w before desk x behind n (record desk { sheet = t })
       publish_done =
@@ -138,11 +138,11 @@ module _ {p w : ℕ} {before : List Line} {desk : Desk} (keeping : Keeping p w b
 pub goal_done : (p w : ℕ) (before : List Line) (x : Line) (behind : List ℕ) → x.form ≡ GoalLine → NoneOf (line_checks p w before x behind) → {Kept : Type 0} → Kept → Lawful (kind_of (before ++ (x ∷ [])))
     → (v : Option ℕ) → IsBoundary (kind_of (before ++ (x ∷ []))) (logic_of (before ++ (x ∷ []))) (book_of p w (before ++ (x ∷ []))) (two x) v
     → (ss : List ℕ) → AllSupports (logic_of (before ++ (x ∷ []))) (book_of p w (before ++ (x ∷ []))) (two x) ss
-    → {m₀ m₁ m₂ : Option ℕ} {o₀ o₁ o₂ : List ℕ} → Adds (boundary_line (two x) v) m₀ o₀ m₁ o₁ → Adds (support_lines (two x) ss) m₁ o₁ m₂ o₂
-    → (r : Result (Unit {0}) Cause) (m₃ : Option ℕ) (o₃ : List ℕ) → Sighted p w (before ++ (x ∷ [])) (two x) r m₂ o₂ m₃ o₃ → Steps p w before x behind r (Kept × LinePrinted p w before x m₀ o₀ m₃ o₃)
-goal_done p w before x behind is none kept lawful v bounds ss all first second (Ok _) m₃ o₃ (seen, sights, third) =
+    → {q₀ q₁ q₂ : Print} → Adds (boundary_line (two x) v) q₀ q₁ → Adds (support_lines (two x) ss) q₁ q₂
+    → (r : Result (Unit {0}) Cause) (q₃ : Print) → Sighted p w (before ++ (x ∷ [])) (two x) r q₂ q₃ → Steps p w before x behind r (Kept × LinePrinted p w before x q₀ q₃)
+goal_done p w before x behind is none kept lawful v bounds ss all first second (Ok _) q₃ (seen, sights, third) =
     let ls = before ++ (x ∷ []) in
     let prints : GoalPrints (kind_of ls) (logic_of ls) (book_of p w ls) (users_of ls) (two x) (block (two x) v ss seen) =
     record { boundary = v; supports = ss; seen = seen; lawful = lawful; bounds = bounds; all = all; sights = sights; block_of = refl } in
     (none, (kept, (block (two x) v ss seen, subst (λ (f : Form). LinePrints p w f ls x (block (two x) v ss seen)) (sym is) prints, adds_both first (adds_both second third))))
-goal_done p w before x behind is none kept lawful v bounds ss all first second (Err c) m₃ o₃ never = absurd never
+goal_done p w before x behind is none kept lawful v bounds ss all first second (Err c) q₃ never = absurd never

@@ -1,5 +1,6 @@
 -- What the sheet answers about a goal that is taken and published.
 use Rattle.std.proofs.Common.{◌≡◌, ℕ, zero, suc, ◌<◌, ◌≤◌, Bool, T, List, [], ◌∷◌, ◌++◌, length, get_or, take, Option, sym, refl, ap, ◌∙◌, subst, inl, inr, append_assoc, append-nil, arith}
+use Rattle.std.proofs.lemmas.Grind.{flat_map-append}
 use Rattle.base.specs.Words.{Iff, In}
 use Rattle.base.specs.Checks.{NoneOf}
 use Rattle.labels.specs.Order.{LabelOrder, JoinPrime, Same}
@@ -30,8 +31,7 @@ seen_more k l b g (v ∷ us) seen u told (r, rest, first, others, e) sees =
     (r, rest ++ ((u, told) ∷ []), first, seen_more k l b g us rest u told others sees, ap (λ (s : List (ℕ × Bool)). s ++ ((u, told) ∷ [])) e)
 
 pub sight_lines_more : (g : Goal) (seen : List (ℕ × Bool)) (u : ℕ) (told : Bool) → sight_lines g (seen ++ ((u, told) ∷ [])) ≡ sight_lines g seen ++ sight_line g u told
-sight_lines_more g [] u told = append-nil (sight_line g u told)
-sight_lines_more g ((v, r) ∷ seen) u told = ap (λ (t : List ℕ). sight_line g v r ++ t) (sight_lines_more g seen u told) ∙ sym (append_assoc (sight_line g v r) (sight_lines g seen) (sight_line g u told))
+sight_lines_more g seen u told = flat_map-append (λ user. sight_line g user.0 user.1) seen ((u, told) ∷ []) ∙ ap (λ (t : List ℕ). sight_lines g seen ++ t) (append-nil (sight_line g u told))
 
 module _ {p w : ℕ} {ls : List Line} {desk : Desk} (keeping : Keeping p w ls desk) where
   -- the desk's kind and logic, and the book

@@ -11,7 +11,8 @@ use Rattle.logics.specs.Entailment.{Goal}
 use Rattle.engine.specs.Book.{blank}
 use Rattle.engine.specs.Keeps.{Keeps}
 use Rattle.engine.specs.Obeys.{held, shown}
-use Rattle.prints.specs.Output.{Printed, Adds}
+use Rattle.prints.specs.declared.Print.{Print}
+use Rattle.prints.specs.Output.{Adds}
 use Rattle.prints.specs.Print.{sight_lines}
 use Rattle.lines.specs.declared.fault.TextFault.{TextFault}
 use Rattle.lines.specs.declared.fault.TextFault.TheVariants.{Misplaced}
@@ -91,18 +92,18 @@ pub record Keeping (p w : ℕ) (before : List Line) (desk : Desk) : Type 0 where
   pub admitted : (u : ℕ) → In u (users_of before) → JoinPrime (kind_of before) u
 
 -- the lines that were read behind the logic, and what they printed
-pub record Along (p w : ℕ) (file out : List ℕ) (reader : Reader) (ls : List Line) (desk : Desk) (n : Option ℕ) (out' : List ℕ) : Type 0 where
+pub record Along (p w : ℕ) (file : List ℕ) (begun : Print) (reader : Reader) (ls : List Line) (desk : Desk) (print : Print) : Type 0 where
   pub stands : Stands p w file reader ls
   pub late : Late ls
   pub keeping : Keeping p w ls desk
   pub told : List ℕ
   pub prints : Prints p w [] ls told
-  pub printed : Printed told out n out'
+  pub printed : Adds told begun print
 
 -- how a file ends: with its print, or refused
-abbrev pub Ends : ℕ → ℕ → List ℕ → List ℕ → Result (Option ℕ) Cause → ℕ → List ℕ → Type 0
-Ends p w file out (Ok n) lines out' = (t : List ℕ) × PrintOf p w file t × Printed t out n out'
-Ends p w file out (Err c) lines out' = Refuses p w file (lines + 1) c
+abbrev pub Ends : ℕ → ℕ → List ℕ → Print → Result (Unit {0}) Cause → ℕ → Print → Type 0
+Ends p w file begun (Ok _) lines print = (t : List ℕ) × PrintOf p w file t × Adds t begun print
+Ends p w file begun (Err c) lines print = Refuses p w file (lines + 1) c
 
 -- checks of which the first that fails gives the fault; where none does, it is done
 abbrev pub Settles : List (Cause × Type 0) → Result (Unit {0}) Cause → Type 0 → Type 0
@@ -118,14 +119,14 @@ abbrev pub Shows : ℕ → ℕ → List Line → Goal → Type 0
 Shows p w before g = ((logic_of before).TakesGoal g) × In g (book_of p w before).published
 
 -- what the users see of the goal is printed; nobody is refused
-abbrev pub Sighted : ℕ → ℕ → List Line → Goal → Result (Unit {0}) Cause → Option ℕ → List ℕ → Option ℕ → List ℕ → Type 0
-Sighted p w before g (Ok _) m out n out' =
-    (seen : List (ℕ × Bool)) × Seen (kind_of before) (logic_of before) (book_of p w before) g (users_of before) seen × Adds (sight_lines g seen) m out n out'
-Sighted p w before g (Err c) m out n out' = ⊥
+abbrev pub Sighted : ℕ → ℕ → List Line → Goal → Result (Unit {0}) Cause → Print → Print → Type 0
+Sighted p w before g (Ok _) old new =
+    (seen : List (ℕ × Bool)) × Seen (kind_of before) (logic_of before) (book_of p w before) g (users_of before) seen × Adds (sight_lines g seen) old new
+Sighted p w before g (Err c) old new = ⊥
 
 -- the line's print stands behind what was printed before
-abbrev pub LinePrinted : ℕ → ℕ → List Line → Line → Option ℕ → List ℕ → Option ℕ → List ℕ → Type 0
-LinePrinted p w before x m out n out' = (s : List ℕ) × LinePrints p w x.form (before ++ (x ∷ [])) x s × Adds s m out n out'
+abbrev pub LinePrinted : ℕ → ℕ → List Line → Line → Print → Print → Type 0
+LinePrinted p w before x old new = (s : List ℕ) × LinePrints p w x.form (before ++ (x ∷ [])) x s × Adds s old new
 
 -- the next line, if there is one that may stand there, names a logic
 abbrev pub LogicNext : Reader → Type 0

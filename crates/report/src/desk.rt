@@ -88,12 +88,12 @@ impl Desk {
     }
 
     // Prints for each user whether the user sees the goal.
-    fn print_sights(&self, print: &mut Print, goal: (u32, u32), out: &mut [u8]) -> Result<(), Cause>
-        ensures { (p w : ℕ) (before : List AnyLine) → Keeping p w before self.now → Shows p w before goal → Sighted p w before goal result print.old.length out.old print.new.length out.new }
+    fn print_sights(&self, goal: (u32, u32), print: &mut Print<'_>) -> Result<(), Cause>
+        ensures { (p w : ℕ) (before : List AnyLine) → Keeping p w before self.now → Shows p w before goal → Sighted p w before goal result print.old print.new }
     {
         for user in self.users.as_slice() {
             let yes = self.sheet.see(*user, goal)?;
-            print.sight_line(out, goal, *user, yes);
+            print.sight_line(goal, *user, yes);
         }
         Ok(())
     }
@@ -101,37 +101,35 @@ impl Desk {
     // Publishes the goal of a line and prints its boundary, its supports, and who sees it.
     fn publish_goal(
         &mut self,
-        print: &mut Print,
         line: &Line,
         places: &mut [u64],
         area: &mut [u8],
-        out: &mut [u8],
+        print: &mut Print<'_>,
     ) -> Result<(), Cause>
-        ensures { (before : List AnyLine) (behind : List ℕ) → line.now.form ≡ GoalLine → Keeping (length places.old) (length area.old) before self.old → Steps (length places.old) (length area.old) before line.now behind result (Keeping (length places.old) (length area.old) (before ++ (line.now ∷ [])) self.new × LinePrinted (length places.old) (length area.old) before line.now print.old.length out.old print.new.length out.new) }
+        ensures { (before : List AnyLine) (behind : List ℕ) → line.now.form ≡ GoalLine → Keeping (length places.old) (length area.old) before self.old → Steps (length places.old) (length area.old) before line.now behind result (Keeping (length places.old) (length area.old) (before ++ (line.now ∷ [])) self.new × LinePrinted (length places.old) (length area.old) before line.now print.old print.new) }
     {
         let goal = (line.numbers[0], line.numbers[1]);
         let count = self.sheet.publish(goal, places, area)?;
         let boundary = self.sheet.boundary(goal)?;
-        print.boundary_line(out, goal, boundary);
-        print.support_lines(out, goal, &places[0..count]);
-        self.print_sights(print, goal, out)
+        print.boundary_line(goal, boundary);
+        print.support_lines(goal, &places[..count]);
+        self.print_sights(goal, print)
     }
 
     // Does what a line behind the logic asks for.
     pub(crate) fn take_line(
         &mut self,
-        print: &mut Print,
         line: &Line,
         places: &mut [u64],
         area: &mut [u8],
-        out: &mut [u8],
+        print: &mut Print<'_>,
     ) -> Result<(), Cause>
-        ensures { (before : List AnyLine) (behind : List ℕ) → 3 ≤ section line.now.form → (section line.now.form ≡ 4 → user_count before < 16) → Keeping (length places.old) (length area.old) before self.old → Steps (length places.old) (length area.old) before line.now behind result (Keeping (length places.old) (length area.old) (before ++ (line.now ∷ [])) self.new × LinePrinted (length places.old) (length area.old) before line.now print.old.length out.old print.new.length out.new) }
+        ensures { (before : List AnyLine) (behind : List ℕ) → 3 ≤ section line.now.form → (section line.now.form ≡ 4 → user_count before < 16) → Keeping (length places.old) (length area.old) before self.old → Steps (length places.old) (length area.old) before line.now behind result (Keeping (length places.old) (length area.old) (before ++ (line.now ∷ [])) self.new × LinePrinted (length places.old) (length area.old) before line.now print.old print.new) }
     {
         match line.form {
             Form::Axiom(form) => self.enter_axiom(form, line),
             Form::User => self.add_user(line),
-            Form::Goal => self.publish_goal(print, line, places, area, out),
+            Form::Goal => self.publish_goal(line, places, area, print),
             _ => Err(Cause::Text(TextFault::Misplaced)),
         }
     }

@@ -28,25 +28,24 @@ use prints::Print;
 use tables::builder::TableBuilder;
 use tables::table::Table;
 
-// The axioms, the users and the goals of a file, and its print.
+// The axioms, the users and the goals of a file.
 fn read_sheet(
     kind: AnyKind,
     logic: AnyLogic,
     reader: &mut Reader<'_>,
     places: &mut [u64],
     area: &mut [u8],
-    out: &mut [u8],
-) -> Result<Option<usize>, Cause>
-    ensures { (file : List ℕ) (before : List AnyLine) → Stands (length places.old) (length area.old) file reader.old before → Opened (length places.old) (length area.old) before kind logic → Ends (length places.old) (length area.old) file out.old result reader.new.lines out.new }
+    print: &mut Print<'_>,
+) -> Result<(), Cause>
+    ensures { (file : List ℕ) (before : List AnyLine) → Stands (length places.old) (length area.old) file reader.old before → Opened (length places.old) (length area.old) before kind logic → Ends (length places.old) (length area.old) file print.old result reader.new.lines print.new }
 {
     let mut desk = Desk::open(kind, logic);
-    let mut print = Print::new();
     while !reader.is_done() {
         let found = reader.next_line()?;
-        desk.take_line(&mut print, &found.line, places, area, out)?;
+        desk.take_line(&found.line, places, area, print)?;
         reader.advance(&found);
     }
-    Ok(print.length)
+    Ok(())
 }
 
 // The logic that a G line names.
@@ -67,14 +66,14 @@ fn read_logic(
     reader: &mut Reader<'_>,
     places: &mut [u64],
     area: &mut [u8],
-    out: &mut [u8],
-) -> Result<Option<usize>, Cause>
-    ensures { (file : List ℕ) (before : List AnyLine) → KindRead (length places.old) (length area.old) file reader.old before kind → Ends (length places.old) (length area.old) file out.old result reader.new.lines out.new }
+    print: &mut Print<'_>,
+) -> Result<(), Cause>
+    ensures { (file : List ℕ) (before : List AnyLine) → KindRead (length places.old) (length area.old) file reader.old before kind → Ends (length places.old) (length area.old) file print.old result reader.new.lines print.new }
 {
     let found = reader.next_line()?;
     let logic = choose_logic(&found.line)?;
     reader.advance(&found);
-    read_sheet(kind, logic, reader, places, area, out)
+    read_sheet(kind, logic, reader, places, area, print)
 }
 
 // The kind that a K line names, where it is no table.
@@ -132,10 +131,10 @@ pub(crate) fn read_file(
     reader: &mut Reader<'_>,
     places: &mut [u64],
     area: &mut [u8],
-    out: &mut [u8],
-) -> Result<Option<usize>, Cause>
-    ensures { (file : List ℕ) → Stands (length places.old) (length area.old) file reader.old [] → Ends (length places.old) (length area.old) file out.old result reader.new.lines out.new }
+    print: &mut Print<'_>,
+) -> Result<(), Cause>
+    ensures { (file : List ℕ) → Stands (length places.old) (length area.old) file reader.old [] → Ends (length places.old) (length area.old) file print.old result reader.new.lines print.new }
 {
     let kind = read_kind(reader)?;
-    read_logic(kind, reader, places, area, out)
+    read_logic(kind, reader, places, area, print)
 }

@@ -71,13 +71,13 @@ impl ReportFault {
 pub fn fault_line(fault: ReportFault, out: &mut [u8]) -> Option<usize>
     ensures { Printed (line_of fault) out.old result out.new }
 {
-    let mut print = Print::new();
+    let mut print = Print::new(out);
     let (line, layer, number) = fault.told();
-    print.byte(out, b'F');
-    print.after_comma(out, line as u64);
-    print.byte(out, b',');
-    print.text(out, layer.name());
-    print.after_comma(out, u64::from(number));
-    print.byte(out, b'\n');
+    print.byte(b'F');
+    print.after_comma(line as u64);
+    print.byte(b',');
+    print.text(layer.name());
+    print.after_comma(u64::from(number));
+    print.byte(b'\n');
     print.length
 }

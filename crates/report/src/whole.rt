@@ -9,6 +9,7 @@ use crate::fault::{Cause, ReportFault};
 use crate::file::read_file;
 use crate::reader::Reader;
 use lines::fault::TextFault;
+use prints::Print;
 
 // The most bytes that a file may have.
 const LONGEST_FILE: usize = 16_384;
@@ -29,10 +30,11 @@ fn outcome_of(
         });
     }
     let mut reader = Reader::new(file);
-    let printed = read_file(&mut reader, places, area, output);
+    let mut print = Print::new(output);
+    let read = read_file(&mut reader, places, area, &mut print);
     let line = reader.lines + 1;
-    let length = printed.map_err(|cause| ReportFault { line, cause })?;
-    length.ok_or(ReportFault {
+    read.map_err(|cause| ReportFault { line, cause })?;
+    print.length.ok_or(ReportFault {
         line: 0,
         cause: Cause::Text(TextFault::PrintTooLong),
     })

@@ -1,4 +1,5 @@
-use Rattle.std.proofs.Common.{[], ◌∷◌, ◌++◌, refl, arith}
+use Rattle.std.proofs.Common.{[], ◌∷◌, ◌++◌}
+use Rattle.prints.proofs.Adding.{adds_none}
 use Rattle.base.specs.Checks.{FirstOf, NoneOf}
 use Rattle.report.specs.Checks.{line_checks}
 use Rattle.report.specs.Stands.{Keeping, LinePrinted}
@@ -7,7 +8,7 @@ use Rattle.report.proofs.file.read_sheet.Goals as goal
 
 pub loop-desk-init : goal.loop-desk-init
 loop-desk-init c = λ file before stands opened.
-    (before, record { stands = stands; late = opened.late; keeping = c.open-desk.ensures _ _ before opened; told = []; prints = opened.prints; printed = rw c.new-print.ensures (refl, omega arith, refl) })
+    (before, record { stands = stands; late = opened.late; keeping = c.open-desk.ensures _ _ before opened; told = []; prints = opened.prints; printed = adds_none })
 
 pub loop-desk-preserved : goal.loop-desk-preserved
 loop-desk-preserved c = λ file before stands opened.
@@ -16,7 +17,7 @@ loop-desk-preserved c = λ file before stands opened.
     let (ls, along) = c.loop-desk.invariant file before stands opened in
     let (none, (kept, printed)) =
     step_here along gets _ _ c.loop-desk.auto.places c.loop-desk.auto.area
-    (λ p w ms behind. NoneOf (line_checks p w ms x.line behind) × (Keeping p w (ms ++ (x.line ∷ [])) c.take_line.new.self × LinePrinted p w ms x.line c.loop-desk.print.length c.loop-desk.out c.take_line.new.print.length c.take_line.new.out))
+    (λ p w ms behind. NoneOf (line_checks p w ms x.line behind) × (Keeping p w (ms ++ (x.line ∷ [])) c.take_line.new.self × LinePrinted p w ms x.line c.loop-desk.print c.take_line.new.print))
     c.in_ok-take_line.ensures in
     (ls ++ (x.line ∷ []), along_more along gets none kept printed c.advance.ensures)
 

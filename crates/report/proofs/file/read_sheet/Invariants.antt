@@ -7,7 +7,7 @@ use Rattle.report.proofs.file.read_sheet.Given as goal
 abbrev pub invariant-loop-desk : goal.invariant-loop-desk
 invariant-loop-desk l =
     (file : List ℕ) (before : List Line) → Stands (length l.initial.places) (length l.initial.area) file l.initial.reader before → Opened (length l.initial.places) (length l.initial.area) before l.fn.kind l.fn.logic
-    → (ls : List Line) × Along (length l.initial.places) (length l.initial.area) file l.initial.out l.reader ls l.desk l.print.length l.out
+    → (ls : List Line) × Along (length l.initial.places) (length l.initial.area) file l.initial.print l.reader ls l.desk l.print
 
 abbrev pub decreases-loop-desk : goal.decreases-loop-desk
 decreases-loop-desk l = length l.reader.rest.now

@@ -12,4 +12,4 @@ abbrev pub invariant-loop-user : goal.invariant-loop-user
 invariant-loop-user l =
     (p w : ℕ) (before : List Line) → Keeping p w before l.self → Shows p w before l.goal
     → (seen : List (ℕ × Bool)) × Seen (kind_of before) (logic_of before) (book_of p w before) l.goal (take l.user-index l.user-items) seen
-    × Adds (sight_lines l.goal seen) l.initial.print.length l.initial.out l.print.length l.out
+    × Adds (sight_lines l.goal seen) l.initial.print l.print

@@ -18,4 +18,4 @@ returns c = λ before behind is keeping.
     let told = c.in_ok-count.ensures in
     let done = publish_done keeping c.args.line.now behind is c.publish.new.self told.kind told.logic told.law in
     goal_done _ _ before c.args.line.now behind is done.none done.keeping done.lawful _ (boundary_answered done.keeping _ done.shows c.in_ok-boundary.ensures.law) _ (done.supports _ _ (told.leaves _ keeping.book)) c.boundary_line.ensures c.support_lines.ensures
-    c.print_sights.result _ _ (c.print_sights.ensures _ _ _ done.keeping done.shows)
+    c.print_sights.result _ (c.print_sights.ensures _ _ _ done.keeping done.shows)
