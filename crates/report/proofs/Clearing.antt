@@ -21,9 +21,9 @@ cleared_from t xs out ys a many print long zeros =
     (ap (λ (vs : List ℕ). ys ++ vs) none ∙ append-nil ys ∙ zeros ∙ ap (λ (n : ℕ). replicate n 0) count)
 
 -- behind a print, and everywhere after a refusal
-pub report_left : (file : List ℕ) (p w : ℕ) (out : List ℕ) (r : Result ℕ ReportFault) (n : ℕ) → n ≡ result_unwrap_or r 0 → (xs : List ℕ) → Outcome file p w out r xs → length xs ≡ length out
+pub report_left : (file : List ℕ) (p w : ℕ) (out : List ℕ) (r : Result ℕ ReportFault) (n : ℕ) → n ≡ result_unwrap_or r 0 → (xs : List ℕ) → Outcome p w file out r xs → length xs ≡ length out
     → (ys : List ℕ) → ys ≡ replicate (length (take (length xs - n) (drop n xs))) 0 → (places area : List ℕ) → Zero places → Zero area → Reported file p w (length out) r places area (put_mid n (length xs - n) xs ys)
-report_left file p w out (Ok m) n e xs (short, (t, print, count, room, left)) long ys zeros places area places_zero area_zero =
+report_left file p w out (Ok m) n e xs (short, (t, print, (count, room, left))) long ys zeros places area places_zero area_zero =
     let cleared = cleared_from t xs out ys n (e ∙ count) (left ∙ ap (λ (k : ℕ). t ++ drop k out) (sym e)) long zeros in
     (places_zero, area_zero, short, (t, print, count, room, cleared ∙ ap (λ (k : ℕ). t ++ replicate (length out - k) 0) e))
 report_left file p w out (Err f) n e xs refused long ys zeros places area places_zero area_zero =

@@ -38,7 +38,7 @@ use Rattle.report.specs.Report.{GoalPrints, LinePrints}
 use Rattle.report.specs.Stands.{Keeping, Shows, Sighted, Steps, LinePrinted}
 use Rattle.report.specs.AnyLawful.{any_lawful}
 use Rattle.report.proofs.Standing.{logic_of_same, users_of_same}
-use Rattle.report.proofs.Stepping.{first_by, none_by, book_by, late_by, first_of_sheet, none_of_sheet, logic_is, named_logic, refused_first, accepted_none, next_after, keeping_more}
+use Rattle.report.proofs.Stepping.{first_by, none_by, book_by, late_by, first_of_sheet, none_of_sheet, logic_is, refused_first, accepted_none, next_after, keeping_more}
 
 -- a goal that is noted is among those noted
 noted : (g : Goal) (gs : List Goal) → In g (note g gs)

@@ -18,7 +18,7 @@ use Rattle.report.specs.Any.{any_kind}
 use Rattle.report.specs.Meaning.{calls_by, booked, book_of}
 use Rattle.report.specs.Checks.{Refuses, early}
 use Rattle.report.specs.Report.{LinePrints, Prints}
-use Rattle.report.specs.Stands.{Gets, Stops, Stands, Opened, Quiet, KindRead, Named, LogicChosen}
+use Rattle.report.specs.Stands.{Gets, Stops, Stands, Opened, Quiet, KindRead, LogicChosen}
 use Rattle.report.proofs.Standing.{lines_of_append, last_form_append, kind_of_same, users_of_same, book_of_more, prints_more}
 use Rattle.report.proofs.Files.{refused_here, refused_text}
 
@@ -40,10 +40,6 @@ logic_named : (ls : List Line) (x : Line) → lines_of 2 ls ≡ [] → section x
 logic_named ls x none two =
     lines_of_append 2 ls (x ∷ []) ∙ ap (λ (ms : List Line). ms ++ lines_of 2 (x ∷ [])) none ∙ ap (λ (n : ℕ). cond (eqb n 2) (x ∷ []) []) two
 
-named : (ls : List Line) (x : Line) (l : AnyLogic) → lines_of 2 ls ≡ [] → section x.form ≡ 2 → LogicChosen x l → Named l (ls ++ (x ∷ []))
-named ls x (El l) none two (form, concepts, roles) = (x, [], logic_named ls x none two, form, concepts, roles)
-named ls x (Links l) none two (form, points) = (x, [], logic_named ls x none two, form, points)
-
 -- its form
 logic_form : (x : Line) (l : AnyLogic) → LogicChosen x l → (p w : ℕ) (ls : List Line) → Quiet p w ls → (book_of p w (ls ++ (x ∷ [])) ≡ book_of p w ls) × Prints p w [] (ls ++ (x ∷ [])) []
 logic_form x (El l) (form, _, _) p w ls quiet = (calm_book p w ls x (LogicLine ElLine) form refl, calm_prints p w ls x (LogicLine ElLine) form refl quiet.prints)
@@ -56,8 +52,6 @@ logic_opened {p} {w} {reader = reader} {ls} {k} read {x} gets l chosen =
     record {
       late = (x.line.form, last_form_append ls x.line, omega arith);
       kind = subst (λ (h : LabelOrder). Same (any_kind k) h) (sym (kind_of_same ls x.line read.some (λ e. omega arith))) read.kind;
-      logic = named ls x.line l read.quiet.none two chosen;
-      book = book ∙ read.quiet.book;
-      users = users_of_same ls x.line (λ e. omega arith) ∙ read.quiet.users;
-      prints = prints;
+      logic = (x.line, [], logic_named ls x.line read.none two, chosen);
+      quiet = record { book = book ∙ read.quiet.book; users = users_of_same ls x.line (λ e. omega arith) ∙ read.quiet.users; prints = prints };
     }

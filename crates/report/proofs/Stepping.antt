@@ -32,7 +32,7 @@ use Rattle.report.specs.declared.fault.Cause.TheVariants.{Sheet}
 use Rattle.report.specs.Any.{any_kind, any_logic}
 use Rattle.report.specs.Meaning.{at, calls_by, booked, kind_of, logic_by, first_logic, logic_of, book_of, users_of}
 use Rattle.report.specs.Checks.{of_sheet, checks_by, line_checks, user_count}
-use Rattle.report.specs.Stands.{Named, Keeping, Settles}
+use Rattle.report.specs.Stands.{LogicChosen, Named, Keeping, Settles}
 use Rattle.report.proofs.Standing.{lines_of_same, kind_of_same, book_of_more}
 use Rattle.report.proofs.Sames.{label_same}
 
@@ -72,23 +72,19 @@ module _ (k : LabelOrder) (l : Entailment) (b : Book) where
   never_refused c f none first = none_first (of_sheet (checks k l b c)) (Sheet f) (none_of_sheet c none) (first_of_sheet c f first)
 
 -- the logic is the one that the lines name
-pub named_logic : (l : AnyLogic) (before : List Line) → Named l before → any_logic l ≡ logic_of before
-named_logic (El l) before (x, xs, is, form, concepts, roles) =
-    ap₂ el concepts roles ∙ ap (λ (f : Form). logic_by f (at x 0) (at x 1)) (sym form) ∙ ap first_logic (sym is)
-named_logic (Links l) before (x, xs, is, form, points) =
-    ap links points ∙ ap (λ (f : Form). logic_by f (at x 0) (at x 1)) (sym form) ∙ ap first_logic (sym is)
+chosen_logic : (l : AnyLogic) (x : Line) → LogicChosen x l → any_logic l ≡ logic_by x.form (at x 0) (at x 1)
+chosen_logic (El l) x (form, concepts, roles) = ap₂ el concepts roles ∙ ap (λ (f : Form). logic_by f (at x 0) (at x 1)) (sym form)
+chosen_logic (Links l) x (form, points) = ap links points ∙ ap (λ (f : Form). logic_by f (at x 0) (at x 1)) (sym form)
 
 pub named_some : (l : AnyLogic) (before : List Line) → Named l before → 0 < length (lines_of 2 before)
-named_some (El l) before (x, xs, is, form, concepts, roles) = omega (arith, ap length is)
-named_some (Links l) before (x, xs, is, form, points) = omega (arith, ap length is)
+named_some l before (x, xs, is, chosen) = omega (arith, ap length is)
 
 not_empty : (before : List Line) → 0 < length (lines_of 2 before) → 0 < length before
 not_empty [] some = some
 not_empty (x ∷ xs) some = omega arith
 
 named_more : (l : AnyLogic) (before : List Line) (x : Line) → (section x.form ≡ 2 → ⊥) → Named l before → Named l (before ++ (x ∷ []))
-named_more (El l) before x other (y, ys, is, form, concepts, roles) = (y, ys, lines_of_same 2 before x other ∙ is, form, concepts, roles)
-named_more (Links l) before x other (y, ys, is, form, points) = (y, ys, lines_of_same 2 before x other ∙ is, form, points)
+named_more l before x other (y, ys, is, chosen) = (y, ys, lines_of_same 2 before x other ∙ is, chosen)
 
 -- numbers of a record that is taken have 16 bits
 small_el : (n roles : ℕ) (r : Record) → ElLimits n roles → ElRecord n roles r → (r.a ≤ 65535) × (r.b ≤ 65535) × (r.c ≤ 65535)
@@ -130,7 +126,7 @@ module _ (k h : LabelOrder) (s : Same k h) (l : Entailment) (b : Book) (r : Reco
 
 -- the logic of a desk is the one that the lines name
 pub logic_is : {p w : ℕ} {before : List Line} {desk : Desk} → Keeping p w before desk → any_logic desk.sheet.logic ≡ logic_of before
-logic_is {before = before} {desk} keeping = named_logic desk.sheet.logic before keeping.logic
+logic_is {before = before} {desk} keeping = let (x, xs, is, chosen) = keeping.logic in chosen_logic desk.sheet.logic x chosen ∙ ap first_logic (sym is)
 
 -- one line more, behind the logic
 pub keeping_more : {p w : ℕ} {before : List Line} {desk : Desk} → Keeping p w before desk → (x : Line) → 3 ≤ section x.form → (desk' : Desk) → desk'.sheet.kind ≡ desk.sheet.kind → desk'.sheet.logic ≡ desk.sheet.logic

@@ -25,7 +25,7 @@ use Rattle.report.specs.Meaning.{at, two, pairs, kind_by, kind_of, book_of}
 use Rattle.report.specs.Checks.{PairNext, table_size, checks_by, line_checks, Refuses}
 use Rattle.report.specs.Report.{Prints}
 use Rattle.report.specs.Stands.{Gets, Stands, Advanced, LogicNext, Quiet, KindRead, TableRead}
-use Rattle.report.proofs.Standing.{lines_of_append, lines_of_same, users_of_same, stands_more}
+use Rattle.report.proofs.Standing.{lines_of_append, lines_of_other, lines_of_same, users_of_same, stands_more}
 use Rattle.report.proofs.Stepping.{first_by, none_by}
 use Rattle.report.proofs.Files.{refused_check}
 use Rattle.report.proofs.Openings.{calm_book, calm_prints}
@@ -66,13 +66,12 @@ table_section f (inr e) = omega (arith, ap section e)
 
 -- before any line
 quiet_none : (p w : ℕ) → Quiet p w []
-quiet_none p w = record { none = refl; book = refl; users = refl; prints = refl }
+quiet_none p w = record { book = refl; users = refl; prints = refl }
 
 -- one line more before the logic
 pub quiet_more : (p w : ℕ) (ls : List Line) (x : Line) → section x.form < 2 → book_of p w (ls ++ (x ∷ [])) ≡ book_of p w ls → Prints p w [] (ls ++ (x ∷ [])) [] → Quiet p w ls → Quiet p w (ls ++ (x ∷ []))
 quiet_more p w ls x early book prints quiet =
     record {
-      none = lines_of_same 2 ls x (λ e. omega arith) ∙ quiet.none;
       book = book ∙ quiet.book;
       users = users_of_same ls x (λ e. omega arith) ∙ quiet.users;
       prints = prints;
@@ -103,6 +102,7 @@ table_begun {p} {w} stands {x} is size sized keeps =
       pair = inl is;
       passes = λ behind ok. none_by p w [] x behind is ((λ no. no sized), (ok, tt));
       fails = λ behind bad. first_by p w [] x behind is _ (inr ((λ no. no sized), inl (bad, refl)));
+      none = lines_of_other 2 x (λ two. omega (arith, ap section is));
       quiet = quiet_more p w [] x (omega (arith, ap section is)) (calm_book p w [] x (KindLine TableForm) is refl) (calm_prints p w [] x (KindLine TableForm) is refl refl) (quiet_none p w);
     }
 
@@ -148,6 +148,7 @@ module _ {p w : ℕ} {file : List ℕ} {reader : Reader} {x : Found} (gets : Get
           pair = inr is;
           passes = λ behind' ok. none_by p w ls y behind' is ((λ no. no of'), (straight', (ok, tt)));
           fails = λ behind' bad. first_by p w ls y behind' is _ (inr ((λ no. no of'), inr (straight', inl (bad, refl))));
+          none = lines_of_same 2 ls y (λ two. omega (arith, ap section is)) ∙ read.none;
           quiet = quiet_more p w ls y (omega (arith, ap section is)) (calm_book p w ls y Pair is refl) (calm_prints p w ls y Pair is refl read.quiet.prints) read.quiet;
         }
 
@@ -171,6 +172,7 @@ module _ {p w : ℕ} {file : List ℕ} {reader : Reader} {x : Found} (gets : Get
         kind = subst (λ (h : LabelOrder). Same (any_kind k) h) (sym order) same;
         some = omega (arith, ap length read.all);
         next = next;
+        none = read.none;
         quiet = read.quiet;
       }
 
@@ -205,5 +207,6 @@ plain_read {p} {w} stands {x} gets plain same none {reader'} moved =
       kind = same;
       some = omega arith;
       next = next;
+      none = lines_of_other 2 x.line (λ two. omega arith);
       quiet = quiet_more p w [] x.line (omega arith) (calm_book p w [] x.line (KindLine f) is refl) (calm_prints p w [] x.line (KindLine f) is refl refl) (quiet_none p w);
     }

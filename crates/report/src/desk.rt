@@ -106,7 +106,7 @@ impl Desk {
         area: &mut [u8],
         print: &mut Print<'_>,
     ) -> Result<(), Cause>
-        ensures { (before : List AnyLine) (behind : List ℕ) → line.now.form ≡ GoalLine → Keeping (length places.old) (length area.old) before self.old → Steps (length places.old) (length area.old) before line.now behind result (Keeping (length places.old) (length area.old) (before ++ (line.now ∷ [])) self.new × LinePrinted (length places.old) (length area.old) before line.now print.old print.new) }
+        ensures { let p = length places.old in let w = length area.old in (before : List AnyLine) (behind : List ℕ) → line.now.form ≡ GoalLine → Keeping p w before self.old → Steps p w before line.now behind result (Keeping p w (before ++ (line.now ∷ [])) self.new × LinePrinted p w before line.now print.old print.new) }
     {
         let goal = (line.numbers[0], line.numbers[1]);
         let count = self.sheet.publish(goal, places, area)?;
@@ -124,7 +124,7 @@ impl Desk {
         area: &mut [u8],
         print: &mut Print<'_>,
     ) -> Result<(), Cause>
-        ensures { (before : List AnyLine) (behind : List ℕ) → 3 ≤ section line.now.form → (section line.now.form ≡ 4 → user_count before < 16) → Keeping (length places.old) (length area.old) before self.old → Steps (length places.old) (length area.old) before line.now behind result (Keeping (length places.old) (length area.old) (before ++ (line.now ∷ [])) self.new × LinePrinted (length places.old) (length area.old) before line.now print.old print.new) }
+        ensures { let p = length places.old in let w = length area.old in (before : List AnyLine) (behind : List ℕ) → 3 ≤ section line.now.form → (section line.now.form ≡ 4 → user_count before < 16) → Keeping p w before self.old → Steps p w before line.now behind result (Keeping p w (before ++ (line.now ∷ [])) self.new × LinePrinted p w before line.now print.old print.new) }
     {
         match line.form {
             Form::Axiom(form) => self.enter_axiom(form, line),

@@ -37,7 +37,7 @@ fn read_sheet(
     area: &mut [u8],
     print: &mut Print<'_>,
 ) -> Result<(), Cause>
-    ensures { (file : List ℕ) (before : List AnyLine) → Stands (length places.old) (length area.old) file reader.old before → Opened (length places.old) (length area.old) before kind logic → Ends (length places.old) (length area.old) file print.old result reader.new.lines print.new }
+    ensures { let p = length places.old in let w = length area.old in (file : List ℕ) (before : List AnyLine) → Stands p w file reader.old before → Opened p w before kind logic → Ends p w file print.old result reader.new.lines print.new }
 {
     let mut desk = Desk::open(kind, logic);
     while !reader.is_done() {
@@ -68,7 +68,7 @@ fn read_logic(
     area: &mut [u8],
     print: &mut Print<'_>,
 ) -> Result<(), Cause>
-    ensures { (file : List ℕ) (before : List AnyLine) → KindRead (length places.old) (length area.old) file reader.old before kind → Ends (length places.old) (length area.old) file print.old result reader.new.lines print.new }
+    ensures { let p = length places.old in let w = length area.old in (file : List ℕ) (before : List AnyLine) → KindRead p w file reader.old before kind → Ends p w file print.old result reader.new.lines print.new }
 {
     let found = reader.next_line()?;
     let logic = choose_logic(&found.line)?;
@@ -133,7 +133,7 @@ pub(crate) fn read_file(
     area: &mut [u8],
     print: &mut Print<'_>,
 ) -> Result<(), Cause>
-    ensures { (file : List ℕ) → Stands (length places.old) (length area.old) file reader.old [] → Ends (length places.old) (length area.old) file print.old result reader.new.lines print.new }
+    ensures { let p = length places.old in let w = length area.old in (file : List ℕ) → Stands p w file reader.old [] → Ends p w file print.old result reader.new.lines print.new }
 {
     let kind = read_kind(reader)?;
     read_logic(kind, reader, places, area, print)

@@ -21,7 +21,7 @@ fn outcome_of(
     area: &mut [u8],
     output: &mut [u8],
 ) -> Result<usize, ReportFault>
-    ensures { Outcome file.now (length places.old) (length area.old) output.old result output.new }
+    ensures { Outcome (length places.old) (length area.old) file.now output.old result output.new }
 {
     if file.len() > LONGEST_FILE {
         return Err(ReportFault {

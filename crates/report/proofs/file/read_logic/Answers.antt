@@ -4,7 +4,7 @@ use Rattle.report.proofs.Openings.{stops_early, logic_opened}
 use Rattle.report.proofs.file.read_logic.Goals as goal
 
 pub returns-in_err-found : goal.returns-in_err-found
-returns-in_err-found c = λ file before read. rw (passed_on c.from_residual.ensures.1) (stops_early read.stands read.quiet.none c.in_err-found.ensures)
+returns-in_err-found c = λ file before read. rw (passed_on c.from_residual.ensures.1) (stops_early read.stands read.none c.in_err-found.ensures)
 
 pub returns-in_err-logic : goal.returns-in_err-logic
 returns-in_err-logic c = λ file before read.

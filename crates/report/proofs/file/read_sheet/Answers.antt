@@ -8,7 +8,7 @@ use Rattle.report.proofs.file.read_sheet.Goals as goal
 
 pub loop-desk-init : goal.loop-desk-init
 loop-desk-init c = λ file before stands opened.
-    (before, record { stands = stands; late = opened.late; keeping = c.open-desk.ensures _ _ before opened; told = []; prints = opened.prints; printed = adds_none })
+    (before, record { stands = stands; late = opened.late; keeping = c.open-desk.ensures _ _ before opened; told = []; prints = opened.quiet.prints; printed = adds_none })
 
 pub loop-desk-preserved : goal.loop-desk-preserved
 loop-desk-preserved c = λ file before stands opened.

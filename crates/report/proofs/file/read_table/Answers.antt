@@ -45,7 +45,7 @@ pub returns-in_err-found : goal.returns-in_err-found
 returns-in_err-found c = λ p w file stands is.
     let (gets, inv) = c.loop-reader.invariant in
     let (before, read) = inv p w file stands is in
-    rw (passed_on c.from_residual-in_err-found.ensures.1) (stops_early (stands_on gets read (c.loop-reader-test.ensures.0 tt) c.advance.ensures) read.quiet.none c.in_err-found.ensures)
+    rw (passed_on c.from_residual-in_err-found.ensures.1) (stops_early (stands_on gets read (c.loop-reader-test.ensures.0 tt) c.advance.ensures) read.none c.in_err-found.ensures)
 
 pub returns-in_err-add : goal.returns-in_err-add
 returns-in_err-add c = λ p w file stands is.

@@ -23,9 +23,9 @@ module _ (r : Result (Unit {0}) Cause) (m : Result (Unit {0}) ReportFault) (Told
   ] told
 
 -- a print that found no room is too long
-room_or_not : (p w : ℕ) (file out : List ℕ) → length file ≤ 16384 → (n : Option ℕ) (out' t : List ℕ) → PrintOf p w file t → Printed t out n out' → Outcome file p w out (ok_or n (record { line = 0; cause = Text PrintTooLong })) out'
+room_or_not : (p w : ℕ) (file out : List ℕ) → length file ≤ 16384 → (n : Option ℕ) (out' t : List ℕ) → PrintOf p w file t → Printed t out n out' → Outcome p w file out (ok_or n (record { line = 0; cause = Text PrintTooLong })) out'
 room_or_not p w file out short None out' t print long = inr (short, inr ((t, print, long.0), refl))
-room_or_not p w file out short (Some n) out' t print (count, room, left) = (short, (t, print, count, room, left))
+room_or_not p w file out short (Some n) out' t print printed = (short, (t, print, printed))
 
 pub returns-in_err-map_err : goal.returns-in_err-map_err
 returns-in_err-map_err c =
