@@ -28,7 +28,7 @@ use Rattle.report.specs.Stands.{Gets, Stands, Advanced, LogicNext, Quiet, KindRe
 use Rattle.report.proofs.Standing.{lines_of_append, lines_of_other, lines_of_same, users_of_same, stands_more}
 use Rattle.report.proofs.Stepping.{first_by, none_by}
 use Rattle.report.proofs.Files.{refused_check}
-use Rattle.report.proofs.Openings.{calm_book, calm_prints}
+use Rattle.report.proofs.Openings.{quiet_none, quiet_more}
 
 pair_first : (bs : List ℕ) → PairNext bs → get_or bs 0 0 ≡ 79
 pair_first [] h = absurd h
@@ -64,19 +64,6 @@ table_section : (f : Form) → OfTable f → section f < 2
 table_section f (inl e) = omega (arith, ap section e)
 table_section f (inr e) = omega (arith, ap section e)
 
--- before any line
-quiet_none : (p w : ℕ) → Quiet p w []
-quiet_none p w = record { book = refl; users = refl; prints = refl }
-
--- one line more before the logic
-pub quiet_more : (p w : ℕ) (ls : List Line) (x : Line) → section x.form < 2 → book_of p w (ls ++ (x ∷ [])) ≡ book_of p w ls → Prints p w [] (ls ++ (x ∷ [])) [] → Quiet p w ls → Quiet p w (ls ++ (x ∷ []))
-quiet_more p w ls x early book prints quiet =
-    record {
-      book = book ∙ quiet.book;
-      users = users_of_same ls x (λ e. omega arith) ∙ quiet.users;
-      prints = prints;
-    }
-
 -- the order of a table's lines
 table_kind : (ls : List Line) (first : Line) (others : List Line) (n : ℕ) → ls ≡ first ∷ others → first.form ≡ KindLine TableForm → at first 0 ≡ n → kind_of ls ≡ table n (pairs others)
 table_kind ls first others n all form size = ap kind_of all ∙ ap₂ (λ (f : Form) (m : ℕ). kind_by f m (pairs others)) form size
@@ -103,7 +90,7 @@ table_begun {p} {w} stands {x} is size sized keeps =
       passes = λ behind ok. none_by p w [] x behind is ((λ no. no sized), (ok, tt));
       fails = λ behind bad. first_by p w [] x behind is _ (inr ((λ no. no sized), inl (bad, refl)));
       none = lines_of_other 2 x (λ two. omega (arith, ap section is));
-      quiet = quiet_more p w [] x (omega (arith, ap section is)) (calm_book p w [] x (KindLine TableForm) is refl) (calm_prints p w [] x (KindLine TableForm) is refl refl) (quiet_none p w);
+      quiet = quiet_more quiet_none x is refl (λ e. omega arith) refl;
     }
 
 module _ {p w : ℕ} {file : List ℕ} {reader : Reader} {x : Found} (gets : Gets reader x) {labels : ℕ} {rows : List ℕ} {before : List Line} (read : TableRead p w file reader x.line labels rows before) where
@@ -149,7 +136,7 @@ module _ {p w : ℕ} {file : List ℕ} {reader : Reader} {x : Found} (gets : Get
           passes = λ behind' ok. none_by p w ls y behind' is ((λ no. no of'), (straight', (ok, tt)));
           fails = λ behind' bad. first_by p w ls y behind' is _ (inr ((λ no. no of'), inr (straight', inl (bad, refl))));
           none = lines_of_same 2 ls y (λ two. omega (arith, ap section is)) ∙ read.none;
-          quiet = quiet_more p w ls y (omega (arith, ap section is)) (calm_book p w ls y Pair is refl) (calm_prints p w ls y Pair is refl read.quiet.prints) read.quiet;
+          quiet = quiet_more read.quiet y is refl (λ e. omega arith) refl;
         }
 
   -- the pairs are all there, and lack a meet or a join
@@ -208,5 +195,5 @@ plain_read {p} {w} stands {x} gets plain same none {reader'} moved =
       some = omega arith;
       next = next;
       none = lines_of_other 2 x.line (λ two. omega arith);
-      quiet = quiet_more p w [] x.line (omega arith) (calm_book p w [] x.line (KindLine f) is refl) (calm_prints p w [] x.line (KindLine f) is refl refl) (quiet_none p w);
+      quiet = quiet_more quiet_none x.line is refl (λ e. omega arith) refl;
     }
