@@ -1,5 +1,5 @@
 -- Checks in their order have one outcome.
-use Rattle.std.proofs.Common.{◌≡◌, List, [], ◌∷◌, sym, ◌∙◌, inl, inr}
+use Rattle.std.proofs.Common.{◌≡◌, List, [], ◌∷◌, ◌++◌, sym, ◌∙◌, inl, inr}
 use Rattle.base.specs.Checks.{FirstOf, NoneOf}
 
 -- the first case that holds is one
@@ -15,3 +15,9 @@ pub none_first : {F : Type 0} (cs : List (F × Type 0)) (f : F) → NoneOf cs �
 none_first [] f none first = first
 none_first (c ∷ cs) f (fails, none) (inl (holds, _)) = fails holds
 none_first (c ∷ cs) f (fails, none) (inr (_, rest)) = none_first cs f none rest
+
+-- the first of some cases is the first of these and more
+pub first_more : {F : Type 0} (cs ds : List (F × Type 0)) (f : F) → FirstOf cs f → FirstOf (cs ++ ds) f
+first_more [] ds f first = absurd first
+first_more (c ∷ cs) ds f (inl here) = inl here
+first_more (c ∷ cs) ds f (inr (fails, rest)) = inr (fails, first_more cs ds f rest)

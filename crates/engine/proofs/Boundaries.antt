@@ -10,7 +10,6 @@ use Rattle.labels.specs.Order.{LabelOrder, Label, Under, Greatest, Least, Top, M
 use Rattle.logics.specs.Entailment.{Entailment, Goal}
 use Rattle.engine.specs.declared.page.Page.{Page}
 use Rattle.engine.specs.Book.{Book}
-use Rattle.engine.specs.Widened.{Widened}
 use Rattle.engine.specs.Sight.{PageAt, AllSupports, MeetOf, IsBoundary}
 
 -- each axiom entered has a page
@@ -191,8 +190,13 @@ module _ (k : LabelOrder) (l : Entailment) (b : Book) (g : Goal) where
   boundary_unique laws (Some v) (Some w) is is' =
       ap {B = Option ℕ} Some (laws.antisymmetric v w (is.least w is'.label is'.above) (is'.least v is.label is.above))
 
+-- a bound that is made to cover one more label: the label itself where there was no bound, else the join
+abbrev pub Widened : LabelOrder → Option ℕ → ℕ → ℕ → Type 0
+Widened k None a r = r ≡ a
+Widened k (Some v) a r = Joins k v a r
+
 -- one support more, as the code widens its bound
-pub join_widened : (k : LabelOrder) → Lawful k → (b : Book) (ss : List ℕ) (i m : ℕ) → i < length ss → MeetOf k b (get_or ss i 0) m → (v r : Option ℕ)
-    → JoinUpTo k b (take i ss) v → Widened k v m r → JoinUpTo k b (take (i + 1) ss) r
+pub join_widened : (k : LabelOrder) → Lawful k → (b : Book) (ss : List ℕ) (i m : ℕ) → i < length ss → MeetOf k b (get_or ss i 0) m → (v : Option ℕ) (r : ℕ)
+    → JoinUpTo k b (take i ss) v → Widened k v m r → JoinUpTo k b (take (i + 1) ss) (Some r)
 join_widened k laws b ss i m within is None r done e = rw e (join_take_first k laws b ss i m within is done)
-join_widened k laws b ss i m within is (Some v) r done (w, joins, e) = rw e (join_asked k laws b ss i m within is v w done joins)
+join_widened k laws b ss i m within is (Some v) r done joins = join_asked k laws b ss i m within is v r done joins

@@ -1,87 +1,66 @@
 -- Withdrawing and relabelling an axiom: one page changes, and no other.
-use Rattle.std.proofs.Common.{◌≡◌, ℕ, ◌-◌, ◌<◌, ◌≤◌, ◌⊎◌, [], length, sym, refl, ap, ◌∙◌, inl, inr, arith}
+use Rattle.std.proofs.Common.{◌≡◌, ℕ, ◌+◌, ◌-◌, List, [], ◌∷◌, Ok, Err, sym, refl, ap, ◌∙◌, subst, inl, inr, ⊎_elim, arith}
+use Rattle.base.specs.Checks.{FirstOf, NoneOf}
+use Rattle.base.proofs.Checks.{first_more}
 use Rattle.labels.specs.Order.{LabelOrder, Label}
 use Rattle.labels.specs.declared.fault.KindFault.TheVariants.{NotALabel}
 use Rattle.logics.specs.Entailment.{Entailment}
 use Rattle.engine.specs.declared.page.Page.{Page}
-use Rattle.engine.specs.declared.table.AxiomTable.{AxiomTable}
-use Rattle.engine.specs.declared.rows.RowTable.{RowTable}
+use Rattle.engine.specs.declared.sheet.Sheet.{Sheet}
 use Rattle.engine.specs.declared.call.Call.TheVariants.{Withdraw, Relabel}
-use Rattle.engine.specs.declared.call.Answer.TheVariants.{Done, Refused}
+use Rattle.engine.specs.declared.call.Answer.TheVariants.{Done}
+use Rattle.engine.specs.declared.call.SheetFault.{SheetFault}
 use Rattle.engine.specs.declared.call.SheetFault.TheVariants.{NoSuchAxiom, WithdrawnAlready, Kind}
-use Rattle.engine.specs.Pages.{Standing, change, withdrawn, relabelled}
+use Rattle.engine.specs.Pages.{NoPage, Standing, change, withdrawn, relabelled}
 use Rattle.engine.specs.Book.{Book}
-use Rattle.base.specs.Words.{Iff}
-use Rattle.engine.specs.Sight.{InForce}
-use Rattle.engine.specs.Law.{NoAxiom}
-use Rattle.engine.specs.Keeps.{Keeps}
-use Rattle.engine.specs.Obeys.{held, shown, Obeys}
-use Rattle.engine.proofs.Obeying.{refused, accepted, keeps_pages, at_change, length_change, length_held}
+use Rattle.engine.specs.Obeys.{Holds, Obeys}
+use Rattle.engine.proofs.Obeying.{refused, accepted, keeps_pages, at_change, length_change}
 
-module _ (k : LabelOrder) (l : Entailment) (axioms : AxiomTable) (rows : RowTable) (n : ℕ) where
-  counted : (b : Book) → Keeps k l b (held axioms) (shown rows) → length b.pages ≡ axioms.count
-  counted b keeps = ap length keeps.book ∙ length_held axioms
+-- the checks of an axiom's number, over the pages
+abbrev pub checks_of : List Page → ℕ → List (SheetFault × Type 0)
+checks_of ps n = (NoSuchAxiom, NoPage ps n) ∷ (WithdrawnAlready, (Standing ps (n - 1) → ⊥)) ∷ []
 
-  -- no axiom has the number
-  none_there : (n ≡ 0) ⊎ (axioms.count < n) → (b : Book) → Keeps k l b (held axioms) (shown rows) → NoAxiom b n
-  none_there (inl e) b keeps = inl e
-  none_there (inr lt) b keeps = inr (omega (arith, counted b keeps))
+-- they are all passed where an axiom in force has the number
+passed : (ps : List Page) (n place : ℕ) → n ≡ place + 1 → Standing ps place → NoneOf (checks_of ps n)
+passed ps n place is stands =
+    let here : n - 1 ≡ place = omega arith in
+    let within = stands.1.0 in
+    (⊎_elim (λ e. omega arith) (λ lt. omega arith), (λ out. out (rw here stands), tt))
 
-  -- an axiom has it
-  there : 0 < n → n ≤ axioms.count → (b : Book) → Keeps k l b (held axioms) (shown rows) → NoAxiom b n → ⊥
-  there some le b keeps (inl e) = omega arith
-  there some le b keeps (inr lt) = omega (arith, counted b keeps)
+module _ {K L : Type 0} (order : K → LabelOrder) (entails : L → Entailment) (s : Sheet K L) (n : ℕ) where
+  pub withdraw_refused : (f : SheetFault) → FirstOf (checks_of s.axioms n) f → Obeys order entails (Withdraw n) (Err f) s s
+  withdraw_refused f first =
+      refused order entails (Withdraw n) s f (λ b keeps. subst (λ (ps : List Page). FirstOf (checks_of ps n) f) (sym keeps.book) first)
 
-  standing : (b : Book) → Keeps k l b (held axioms) (shown rows) → Iff (InForce b (n - 1)) (Standing (held axioms) (n - 1))
-  standing b keeps = rw keeps.book (λ s. s, λ s. s)
+  pub relabel_refused : (a : ℕ) (f : SheetFault) → FirstOf (checks_of s.axioms n) f → Obeys order entails (Relabel n a) (Err f) s s
+  relabel_refused a f first =
+      refused order entails (Relabel n a) s f (λ b keeps. first_more (checks_of b.pages n) ((Kind NotALabel, (Label (order s.kind) a → ⊥)) ∷ []) f (subst (λ (ps : List Page). FirstOf (checks_of ps n) f) (sym keeps.book) first))
 
-  pub withdraw_none : (n ≡ 0) ⊎ (axioms.count < n) → Obeys k l (Withdraw n) (Refused NoSuchAxiom) axioms rows axioms rows
-  withdraw_none none = refused k l (Withdraw n) axioms rows NoSuchAxiom (λ b keeps. inl (none_there none b keeps, refl))
+  module _ (place : ℕ) (is : n ≡ place + 1) (stands : Standing s.axioms place) where
+    passed_by : (b : Book) → Holds order entails s b → NoneOf (checks_of b.pages n)
+    passed_by b keeps = passed b.pages n place is (rw keeps.book stands)
 
-  pub relabel_none : (a : ℕ) → (n ≡ 0) ⊎ (axioms.count < n) → Obeys k l (Relabel n a) (Refused NoSuchAxiom) axioms rows axioms rows
-  relabel_none a none = refused k l (Relabel n a) axioms rows NoSuchAxiom (λ b keeps. inl (none_there none b keeps, refl))
+    pub relabel_label : (a : ℕ) → (Label (order s.kind) a → ⊥) → Obeys order entails (Relabel n a) (Err (Kind NotALabel)) s s
+    relabel_label a never =
+        refused order entails (Relabel n a) s (Kind NotALabel) (λ b keeps. let (there, (up, _)) = passed_by b keeps in inr (there, inr (up, inl (never, refl))))
 
-  module _ (some : 0 < n) (le : n ≤ axioms.count) where
-    pub withdraw_already : (Standing (held axioms) (n - 1) → ⊥) → Obeys k l (Withdraw n) (Refused WithdrawnAlready) axioms rows axioms rows
-    withdraw_already out =
-        refused k l (Withdraw n) axioms rows WithdrawnAlready (λ b keeps. inr (there some le b keeps, inl (λ s. out ((standing b keeps).0 s), refl)))
+    -- one page changes, by a change that keeps what is taken
+    module _ (t : Sheet K L) (kind : t.kind ≡ s.kind) (logic : t.logic ≡ s.logic) (none : t.rows ≡ []) where
+      changed : (f : Page → Page) → ((p : Page) → (entails s.logic).TakesRecord p.entry × Label (order s.kind) p.label → (entails s.logic).TakesRecord (f p).entry × Label (order s.kind) (f p).label)
+          → t.axioms ≡ change (place + 1) f s.axioms → (b : Book) → Holds order entails s b → Holds order entails t (record { pages = change n f b.pages; published = [] })
+      changed f fine pages b keeps =
+          rw (kind, logic, is) (keeps_pages (order s.kind) (entails s.logic) (change (place + 1) f b.pages) t.axioms (ap (change (place + 1) f) keeps.book ∙ sym pages)
+          (rw pages (omega (arith, length_change f (place + 1) s.axioms, keeps.few)))
+          (rw pages (at_change f (place + 1) s.axioms (λ p. (entails s.logic).TakesRecord p.entry × Label (order s.kind) p.label) (λ i p at. let taken = keeps.taken i p at in (taken, fine p taken))))
+          t.rows none)
 
-    pub relabel_already : (a : ℕ) → (Standing (held axioms) (n - 1) → ⊥) → Obeys k l (Relabel n a) (Refused WithdrawnAlready) axioms rows axioms rows
-    relabel_already a out =
-        refused k l (Relabel n a) axioms rows WithdrawnAlready (λ b keeps. inr (there some le b keeps, inl (λ s. out ((standing b keeps).0 s), refl)))
+      pub withdraw_done : t.axioms ≡ change (place + 1) withdrawn s.axioms → Obeys order entails (Withdraw n) (Ok Done) s t
+      withdraw_done pages =
+          accepted order entails (Withdraw n) s Done t kind logic (λ b keeps. (passed_by b keeps, refl, changed withdrawn (λ p taken. taken) pages b keeps))
 
-    module _ (stands : Standing (held axioms) (n - 1)) where
-      pub relabel_label : (a : ℕ) → (Label k a → ⊥) → Obeys k l (Relabel n a) (Refused (Kind NotALabel)) axioms rows axioms rows
-      relabel_label a no_label =
-          refused k l (Relabel n a) axioms rows (Kind NotALabel)
-          (λ b keeps. inr (there some le b keeps, inr (λ out. out ((standing b keeps).1 stands), inl (no_label, refl))))
-
-      -- one page changes, by a change that keeps what is taken
-      changed : (f : Page → Page) → ((p : Page) → l.TakesRecord p.entry × Label k p.label → l.TakesRecord (f p).entry × Label k (f p).label)
-          → (axioms' : AxiomTable) (rows' : RowTable) → held axioms' ≡ change n f (held axioms) → shown rows' ≡ []
-          → (b : Book) → Keeps k l b (held axioms) (shown rows) → Keeps k l (record { pages = change n f b.pages; published = [] }) (held axioms') (shown rows')
-      changed f fine axioms' rows' pages none b keeps =
-          keeps_pages k l (change n f b.pages) (held axioms') (ap (change n f) keeps.book ∙ sym pages)
-          (rw pages (omega (arith, length_change f n (held axioms), keeps.few)))
-          (rw pages (at_change f n (held axioms) (λ p. l.TakesRecord p.entry × Label k p.label) (λ i p at. let t = keeps.taken i p at in (t, fine p t))))
-          (shown rows') none
-
-      pub withdraw_done : (axioms' : AxiomTable) (rows' : RowTable) → held axioms' ≡ change n withdrawn (held axioms) → shown rows' ≡ []
-          → Obeys k l (Withdraw n) Done axioms rows axioms' rows'
-      withdraw_done axioms' rows' pages none =
-          accepted k l (Withdraw n) axioms rows Done axioms' rows'
-          (λ b keeps. (
-            (there some le b keeps, (λ out. out ((standing b keeps).1 stands), tt)),
-            refl,
-            changed withdrawn (λ p t. t) axioms' rows' pages none b keeps,
-          ))
-
-      pub relabel_done : (a : ℕ) → Label k a → (axioms' : AxiomTable) (rows' : RowTable) → held axioms' ≡ change n (relabelled a) (held axioms) → shown rows' ≡ []
-          → Obeys k l (Relabel n a) Done axioms rows axioms' rows'
-      relabel_done a label axioms' rows' pages none =
-          accepted k l (Relabel n a) axioms rows Done axioms' rows'
-          (λ b keeps. (
-            (there some le b keeps, (λ out. out ((standing b keeps).1 stands), (λ never. never label, tt))),
-            refl,
-            changed (relabelled a) (λ p t. (t.0, label)) axioms' rows' pages none b keeps,
-          ))
+      pub relabel_done : (a : ℕ) → Label (order s.kind) a → t.axioms ≡ change (place + 1) (relabelled a) s.axioms → Obeys order entails (Relabel n a) (Ok Done) s t
+      relabel_done a label pages =
+          accepted order entails (Relabel n a) s Done t kind logic
+          (λ b keeps.
+          let (there, (up, _)) = passed_by b keeps in
+          ((there, (up, (λ no. no label, tt))), refl, changed (relabelled a) (λ p taken. (taken.0, label)) pages b keeps))

@@ -1,51 +1,50 @@
 -- Entering an axiom: the three refusals in their order, and the page that is added.
-use Rattle.std.proofs.Common.{◌≡◌, ℕ, ◌+◌, ◌<◌, ◌≤◌, true, [], ◌∷◌, ◌++◌, length, sym, refl, ap, ◌∙◌, inl, inr, arith, length-append}
+use Rattle.std.proofs.Common.{◌≡◌, ℕ, ◌+◌, ◌<◌, ◌≤◌, true, [], ◌∷◌, ◌++◌, length, Ok, Err, sym, refl, ap, ◌∙◌, inl, inr, arith, length-append}
 use Rattle.labels.specs.Order.{LabelOrder, Label}
 use Rattle.labels.specs.declared.fault.KindFault.TheVariants.{NotALabel}
 use Rattle.logics.specs.Entailment.{Entailment}
 use Rattle.logics.specs.declared.LogicFault.TheVariants.{RecordNotTaken}
 use Rattle.logics.specs.declared.Record.{Record}
 use Rattle.engine.specs.declared.page.Page.{Page}
-use Rattle.engine.specs.declared.table.AxiomTable.{AxiomTable}
-use Rattle.engine.specs.declared.rows.RowTable.{RowTable}
+use Rattle.engine.specs.declared.sheet.Sheet.{Sheet}
 use Rattle.engine.specs.declared.call.Call.TheVariants.{Enter}
-use Rattle.engine.specs.declared.call.Answer.TheVariants.{Entered, Refused}
+use Rattle.engine.specs.declared.call.Answer.TheVariants.{Entered}
 use Rattle.engine.specs.declared.call.SheetFault.TheVariants.{Full, Kind, Logic}
 use Rattle.engine.specs.Book.{Book}
-use Rattle.engine.specs.Keeps.{Keeps}
-use Rattle.engine.specs.Obeys.{held, shown, Obeys}
-use Rattle.engine.proofs.Obeying.{refused, accepted, keeps_pages, at_more, length_held}
+use Rattle.engine.specs.Obeys.{Holds, Obeys}
+use Rattle.engine.proofs.Obeying.{refused, accepted, keeps_pages, at_more}
 
-module _ (k : LabelOrder) (l : Entailment) (axioms : AxiomTable) (rows : RowTable) (r : Record) (a : ℕ) where
-  -- the book has as many pages as the table counts
-  pages_counted : (b : Book) → Keeps k l b (held axioms) (shown rows) → length b.pages ≡ axioms.count
-  pages_counted b keeps = ap length keeps.book ∙ length_held axioms
+module _ {K L : Type 0} (order : K → LabelOrder) (entails : L → Entailment) (s : Sheet K L) (r : Record) (a : ℕ) where
+  -- the book has as many pages as the table
+  counted : (b : Book) → Holds order entails s b → length b.pages ≡ length s.axioms
+  counted b keeps = ap length keeps.book
 
-  pub enter_full : 64 ≤ axioms.count → Obeys k l (Enter r a) (Refused Full) axioms rows axioms rows
-  enter_full full = refused k l (Enter r a) axioms rows Full (λ b keeps. inl (omega (arith, pages_counted b keeps), refl))
+  pub enter_full : 64 ≤ length s.axioms → Obeys order entails (Enter r a) (Err Full) s s
+  enter_full full = refused order entails (Enter r a) s Full (λ b keeps. inl (omega (arith, counted b keeps), refl))
 
-  module _ (room : axioms.count < 64) where
-    pub enter_record : (l.TakesRecord r → ⊥) → Obeys k l (Enter r a) (Refused (Logic RecordNotTaken)) axioms rows axioms rows
-    enter_record not_taken =
-        refused k l (Enter r a) axioms rows (Logic RecordNotTaken) (λ b keeps. inr (λ full. omega (arith, full, pages_counted b keeps), inl (not_taken, refl)))
+  module _ (room : length s.axioms < 64) where
+    pub enter_record : ((entails s.logic).TakesRecord r → ⊥) → Obeys order entails (Enter r a) (Err (Logic RecordNotTaken)) s s
+    enter_record never =
+        refused order entails (Enter r a) s (Logic RecordNotTaken) (λ b keeps. inr (λ full. omega (arith, full, counted b keeps), inl (never, refl)))
 
-    module _ (taken : l.TakesRecord r) where
-      pub enter_label : (Label k a → ⊥) → Obeys k l (Enter r a) (Refused (Kind NotALabel)) axioms rows axioms rows
-      enter_label no_label =
-          refused k l (Enter r a) axioms rows (Kind NotALabel)
-          (λ b keeps. inr (λ full. omega (arith, full, pages_counted b keeps), inr (λ never. never taken, inl (no_label, refl))))
+    module _ (taken : (entails s.logic).TakesRecord r) where
+      pub enter_label : (Label (order s.kind) a → ⊥) → Obeys order entails (Enter r a) (Err (Kind NotALabel)) s s
+      enter_label never =
+          refused order entails (Enter r a) s (Kind NotALabel)
+          (λ b keeps. inr (λ full. omega (arith, full, counted b keeps), inr (λ no. no taken, inl (never, refl))))
 
-      pub enter_done : Label k a → (axioms' : AxiomTable) (rows' : RowTable) → held axioms' ≡ held axioms ++ (record { entry = r; label = a; stands = true } ∷ [])
-          → axioms'.count ≡ axioms.count + 1 → shown rows' ≡ [] → Obeys k l (Enter r a) (Entered axioms'.count) axioms rows axioms' rows'
-      enter_done label axioms' rows' pages count none =
+      pub enter_done : Label (order s.kind) a → (t : Sheet K L) → t.kind ≡ s.kind → t.logic ≡ s.logic
+          → t.axioms ≡ s.axioms ++ (record { entry = r; label = a; stands = true } ∷ []) → t.rows ≡ [] → (n : ℕ) → n ≡ length t.axioms
+          → Obeys order entails (Enter r a) (Ok (Entered n)) s t
+      enter_done label t kind logic pages none n count =
           let page : Page = record { entry = r; label = a; stands = true } in
-          accepted k l (Enter r a) axioms rows (Entered axioms'.count) axioms' rows'
-          (λ b keeps.
-          let counted = pages_counted b keeps in (
-            (λ full. omega (arith, full), (λ never. never taken, (λ never. never label, tt))),
-            ap Entered (count ∙ ap (λ (n : ℕ). n + 1) (sym counted)),
-            keeps_pages k l (b.pages ++ (page ∷ [])) (held axioms') (ap (λ ps. ps ++ (page ∷ [])) keeps.book ∙ sym pages)
-                (rw pages (simp length-append (omega (arith, length_held axioms))))
-                (rw pages (at_more (held axioms) page (λ p. l.TakesRecord p.entry × Label k p.label) keeps.taken (taken, label)))
-                (shown rows') none,
+          let long : length t.axioms ≡ length s.axioms + 1 = ap length pages ∙ length-append s.axioms (page ∷ []) in
+          accepted order entails (Enter r a) s (Entered n) t kind logic
+          (λ b keeps. (
+            (λ full. omega (arith, full, counted b keeps), (λ no. no taken, (λ no. no label, tt))),
+            ap Entered (count ∙ long ∙ ap (λ (m : ℕ). m + 1) (sym (counted b keeps))),
+            rw (kind, logic) (keeps_pages (order s.kind) (entails s.logic) (b.pages ++ (page ∷ [])) t.axioms (ap (λ ps. ps ++ (page ∷ [])) keeps.book ∙ sym pages)
+                (omega (arith, long))
+                (rw pages (at_more s.axioms page (λ p. (entails s.logic).TakesRecord p.entry × Label (order s.kind) p.label) keeps.taken (taken, label)))
+                t.rows none),
           ))

@@ -1,45 +1,46 @@
 -- A call that is refused leaves the book; one that changes a page empties the published goals.
-use Rattle.std.proofs.Common.{◌≡◌, ℕ, zero, suc, ◌-◌, ◌≤◌, Bool, true, false, cond, eqb, List, [], ◌∷◌, ◌++◌, length, refl, ap, subst, inl, inr, arith, length-take-le}
+use Rattle.std.proofs.Common.{◌≡◌, ℕ, zero, suc, ◌-◌, ◌≤◌, Bool, true, false, cond, eqb, List, [], ◌∷◌, ◌++◌, length, Ok, Err, refl, ap, subst, inl, inr, arith}
 use Rattle.base.specs.Words.{In}
 use Rattle.labels.specs.Order.{LabelOrder, Label}
 use Rattle.logics.specs.Entailment.{Entailment}
 use Rattle.engine.specs.declared.page.Page.{Page}
 use Rattle.engine.specs.declared.page.Row.{Row}
-use Rattle.engine.specs.declared.table.AxiomTable.{AxiomTable}
-use Rattle.engine.specs.declared.rows.RowTable.{RowTable}
+use Rattle.engine.specs.declared.sheet.Sheet.{Sheet}
 use Rattle.engine.specs.declared.call.Call.{Call}
 use Rattle.engine.specs.declared.call.Answer.{Answer}
-use Rattle.engine.specs.declared.call.Answer.TheVariants.{Refused}
 use Rattle.engine.specs.declared.call.SheetFault.{SheetFault}
 use Rattle.engine.specs.Pages.{At, change}
 use Rattle.engine.specs.Book.{Book, after}
 use Rattle.engine.specs.Law.{RefusedBy, Accepted, Answered}
 use Rattle.engine.specs.Keeps.{Keeps}
-use Rattle.engine.specs.Obeys.{held, shown, Obeys}
+use Rattle.engine.specs.Obeys.{Holds, Obeys}
 
-module _ (k : LabelOrder) (l : Entailment) (c : Call) (axioms : AxiomTable) (rows : RowTable) where
-  pub refused : (f : SheetFault) → ((b : Book) → Keeps k l b (held axioms) (shown rows) → RefusedBy k l b c f) → Obeys k l c (Refused f) axioms rows axioms rows
-  refused f why b keeps = let by = why b keeps in (inl (f, by, refl), (b, inl (f, by, refl), keeps))
+module _ {K L : Type 0} (order : K → LabelOrder) (entails : L → Entailment) (c : Call) (s : Sheet K L) where
+  pub refused : (f : SheetFault) → ((b : Book) → Holds order entails s b → RefusedBy (order s.kind) (entails s.logic) b c f) → Obeys order entails c (Err f) s s
+  refused f why = record { law = λ b keeps. let by = why b keeps in (by, (b, inl (f, by, refl), keeps)); kind = refl; logic = refl }
 
-  pub accepted : (x : Answer) (axioms' : AxiomTable) (rows' : RowTable)
-      → ((b : Book) → Keeps k l b (held axioms) (shown rows) → Accepted k l b c × Answered k l b c x × Keeps k l (after c b) (held axioms') (shown rows'))
-      → Obeys k l c x axioms rows axioms' rows'
-  accepted x axioms' rows' how b keeps = let (ok, answer, kept) = how b keeps in (inr (ok, answer), (after c b, inr (ok, refl), kept))
-
-module _ (k : LabelOrder) (l : Entailment) where
-  -- pages of taken records and labels, and no row
-  pub keeps_pages : (pages pages' : List Page) → pages ≡ pages' → length pages' ≤ 64
-      → ((i : ℕ) (p : Page) → At pages' i p → l.TakesRecord p.entry × Label k p.label) → (rows : List Row) → rows ≡ []
-      → Keeps k l (record { pages = pages; published = [] }) pages' rows
-  keeps_pages pages pages' same few taken rows none = record {
-    book = same;
-    few = few;
-    taken = taken;
-    goals = λ g. rw none (λ h. h, λ h. h);
-    once = rw none refl;
-    ascending = rw none tt;
-    right = λ r h. absurd (subst (In r) none h);
+  pub accepted : (x : Answer) (t : Sheet K L) → t.kind ≡ s.kind → t.logic ≡ s.logic
+      → ((b : Book) → Holds order entails s b → Accepted (order s.kind) (entails s.logic) b c × Answered (order s.kind) (entails s.logic) b c x × Holds order entails t (after c b))
+      → Obeys order entails c (Ok x) s t
+  accepted x t kind logic how = record {
+    law = λ b keeps. let (ok, answer, kept) = how b keeps in ((ok, answer), (after c b, inr (ok, refl), kept));
+    kind = kind;
+    logic = logic;
   }
+
+-- pages of taken records and labels, and no row
+pub keeps_pages : (k : LabelOrder) (l : Entailment) (pages pages' : List Page) → pages ≡ pages' → length pages' ≤ 64
+    → ((i : ℕ) (p : Page) → At pages' i p → l.TakesRecord p.entry × Label k p.label) → (rows : List Row) → rows ≡ []
+    → Keeps k l (record { pages = pages; published = [] }) pages' rows
+keeps_pages k l pages pages' same few taken rows none = record {
+  book = same;
+  few = few;
+  taken = taken;
+  goals = λ g. rw none (λ h. h, λ h. h);
+  once = rw none refl;
+  ascending = rw none tt;
+  right = λ r h. absurd (subst (In r) none h);
+}
 
 -- each page of a list with one page more
 pub at_more : (ps : List Page) (p : Page) (P : Page → Type 0) → ((i : ℕ) (q : Page) → At ps i q → P q) → P p → (i : ℕ) (q : Page) → At (ps ++ (p ∷ [])) i q → P q
@@ -70,7 +71,3 @@ length_change f n (p ∷ ps) = cases (length_change f (n - 1) ps) (eqb n 1)
     cases : length (change (n - 1) f ps) ≡ length ps → (t : Bool) → length (cond t (f p ∷ ps) (p ∷ change (n - 1) f ps)) ≡ suc (length ps)
     cases rest true = refl
     cases rest false = ap suc rest
-
--- as many pages are held as the table counts
-pub length_held : (axioms : AxiomTable) → length (held axioms) ≡ axioms.count
-length_held axioms = length-take-le axioms.count axioms.pages (omega arith)

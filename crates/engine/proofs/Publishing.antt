@@ -1,30 +1,28 @@
 -- Publishing: one goal more in the book, its row among the rows.
-use Rattle.std.proofs.Common.{◌≡◌, ℕ, ◌+◌, ◌<◌, ◌≤◌, Bool, true, false, cond, T, eqb, ◌⊎◌, List, [], ◌∷◌, ◌++◌, length, take, Some, None, Ok, Err, Option, sym, refl, ap, ◌∙◌, subst, ap₂, inl, inr, ⊎_elim, arith, length-append, take_all}
+use Rattle.std.proofs.Common.{◌≡◌, ℕ, ◌+◌, ◌<◌, ◌≤◌, Bool, true, false, cond, T, eqb, ◌⊎◌, List, [], ◌∷◌, ◌++◌, length, take, replicate, ◌-◌, Some, None, Ok, Err, Option, sym, refl, ap, ◌∙◌, subst, ap₂, inl, inr, ⊎_elim, arith, length-append, take_all}
 use lib.Seq.{take-append-le}
 use Rattle.base.specs.Words.{Iff, In}
 use Rattle.base.proofs.Tests.{eqb_iff}
 use Rattle.labels.specs.Order.{LabelOrder}
 use Rattle.logics.specs.Entailment.{Entailment, Goal}
 use Rattle.logics.specs.declared.LogicFault.TheVariants.{GoalNotTaken}
-use Rattle.ordered.specs.Lists.{Ascending}
 use Rattle.ordered.proofs.Lists.{in_append}
 use Rattle.engine.specs.declared.page.Page.{Page}
 use Rattle.engine.specs.declared.page.Row.{Row}
-use Rattle.engine.specs.declared.table.AxiomTable.{AxiomTable}
-use Rattle.engine.specs.declared.rows.RowTable.{RowTable}
+use Rattle.engine.specs.declared.sheet.Sheet.{Sheet}
 use Rattle.engine.specs.declared.call.Call.TheVariants.{Publish}
-use Rattle.engine.specs.declared.call.Answer.TheVariants.{Count, Refused}
+use Rattle.engine.specs.declared.call.Answer.TheVariants.{Count}
 use Rattle.engine.specs.declared.call.SheetFault.{SheetFault}
-use Rattle.engine.specs.declared.call.SheetFault.TheVariants.{RowsFull, ShortArea, MoreSupports, Logic}
+use Rattle.engine.specs.declared.call.SheetFault.TheVariants.{RowsFull, MoreSupports, Logic}
 use Rattle.engine.specs.Book.{Book, same, note}
 use Rattle.engine.specs.Sight.{AllSupports, MeetOf, LeastAbove, IsBoundary}
-use Rattle.engine.specs.Law.{MoreThan, Published}
-use Rattle.engine.specs.Keeps.{ByGoal, Right, Keeps}
-use Rattle.engine.specs.Searched.{Searched}
-use Rattle.engine.specs.Obeys.{held, shown, Obeys}
+use Rattle.engine.specs.Law.{Published}
+use Rattle.engine.specs.Rows.{HasRow, NoRow, OneMore, Put}
+use Rattle.engine.specs.Keeps.{Right, Keeps}
+use Rattle.engine.specs.Obeys.{Holds, Obeys, Searches}
 use Rattle.engine.proofs.Obeying.{refused, accepted}
+use Rattle.engine.proofs.Supporting.{supports_unique}
 use Rattle.engine.proofs.Reading.{goals_of, goal_of_row, row_of_goal, unpublished, published}
-use Rattle.engine.proofs.Supporting.{enough, fits}
 
 -- two goals are the same when both numbers are
 same_iff : (g h : Goal) → Iff (T (same g h)) (g ≡ h)
@@ -53,17 +51,6 @@ note_new g (h ∷ hs) none = cases (note_new g hs (λ j. none (inr j))) (same g 
     cases : note g hs ≡ hs ++ (g ∷ []) → (t : Bool) → Iff (T t) (g ≡ h) → cond t (h ∷ hs) (h ∷ note g hs) ≡ h ∷ (hs ++ (g ∷ []))
     cases rest true says = absurd (none (inl (says.0 tt)))
     cases rest false says = ap (λ (xs : List Goal). h ∷ xs) rest
-
-abbrev pub HasRow : List Row → Goal → Type 0
-HasRow rows g = (r : Row) × In r rows × (r.goal ≡ g)
-
-abbrev pub NoRow : List Row → Goal → Type 0
-NoRow rows g = (r : Row) → In r rows → r.goal ≡ g → ⊥
-
--- a row put among rows, where none is of its goal
-abbrev pub PutIn : List Row → Row → List Row → Type 0
-PutIn rows row rows' =
-    NoRow rows row.goal × ((r : Row) → Iff (In r rows') ((r ≡ row) ⊎ In r rows)) × Ascending ByGoal rows' × (length rows' ≡ length rows + 1)
 
 module _ (k : LabelOrder) (l : Entailment) (b : Book) (gs : List Goal) where
   abbrev noted : Book
@@ -105,9 +92,9 @@ module _ (k : LabelOrder) (l : Entailment) (b : Book) (pages : List Page) (rows 
   }
 
   -- it is published now
-  pub kept_new : (Published b g → ⊥) → (v : Option ℕ) → Right k l b (record { goal = g; boundary = v }) → (rows' : List Row) → PutIn rows (record { goal = g; boundary = v }) rows'
+  pub kept_new : (Published b g → ⊥) → (v : Option ℕ) → Right k l b (record { goal = g; boundary = v }) → (rows' : List Row) → OneMore rows (record { goal = g; boundary = v }) rows'
       → Keeps k l (record { pages = b.pages; published = note g b.published }) pages rows'
-  kept_new none v right rows' (_, members, up, long) =
+  kept_new none v right rows' more =
       let row : Row = record { goal = g; boundary = v } in
       let new : note g b.published ≡ b.published ++ (g ∷ []) = note_new g b.published none in
       record {
@@ -118,82 +105,62 @@ module _ (k : LabelOrder) (l : Entailment) (b : Book) (pages : List Page) (rows 
           λ among.
               let (r, there, e) = row_of_goal rows' h among in
               (in_append h b.published (g ∷ [])).1
-              (⊎_elim (λ is. inr (inl (sym e ∙ ap (λ (x : Row). x.goal) is))) (λ old. inl (subst (λ (x : Goal). Published b x) e ((keeps.goals r.goal).0 (goal_of_row rows r old)))) ((members r).0 there)),
+              (⊎_elim (λ is. inr (inl (sym e ∙ ap (λ (x : Row). x.goal) is))) (λ old. inl (subst (λ (x : Goal). Published b x) e ((keeps.goals r.goal).0 (goal_of_row rows r old)))) ((more.among r).0 there)),
           λ among.
-              ⊎_elim (λ old. let (r, there, e) = row_of_goal rows h ((keeps.goals h).1 old) in subst (λ (x : Goal). In x (goals_of rows')) e (goal_of_row rows' r ((members r).1 (inr there))))
-              (⊎_elim (λ e. subst (λ (x : Goal). In x (goals_of rows')) (sym e) (goal_of_row rows' row ((members row).1 (inl refl)))) (λ no. absurd no))
+              ⊎_elim (λ old. let (r, there, e) = row_of_goal rows h ((keeps.goals h).1 old) in subst (λ (x : Goal). In x (goals_of rows')) e (goal_of_row rows' r ((more.among r).1 (inr there))))
+              (⊎_elim (λ e. subst (λ (x : Goal). In x (goals_of rows')) (sym e) (goal_of_row rows' row ((more.among row).1 (inl refl)))) (λ no. absurd no))
               ((in_append h b.published (g ∷ [])).0 among),
         );
-        once = rw new (long ∙ ap (λ (m : ℕ). m + 1) keeps.once ∙ sym (length-append b.published (g ∷ [])));
-        ascending = up;
+        once = rw new (more.length ∙ ap (λ (m : ℕ). m + 1) keeps.once ∙ sym (length-append b.published (g ∷ [])));
+        ascending = more.ascending;
         right = λ r h.
-            right_noted k l b (note g b.published) r (⊎_elim (λ is. subst (Right k l b) (sym is) right) (keeps.right r) ((members r).0 h));
+            right_noted k l b (note g b.published) r (⊎_elim (λ is. subst (Right k l b) (sym is) right) (keeps.right r) ((more.among r).0 h));
       }
+
+-- the places that are counted hold all supports
+pub front_supports : (l : Entailment) (b : Book) (g : Goal) (n : ℕ) (places places' : List ℕ) → (ss : List ℕ) × AllSupports l b g ss × (n ≡ length ss)
+    → (ts : List ℕ) × AllSupports l b g ts × (places' ≡ ts ++ replicate (length places - length ts) 0) → AllSupports l b g (take n places')
+front_supports l b g n places places' (ss, is, count) (ts, all, filled) =
+    let same : ss ≡ ts = supports_unique l b g ss ts is all in
+    let size : n ≡ length ts = count ∙ ap length same in
+    let front : take n places' ≡ ts = ap (take n) filled ∙ take-append-le n ts _ (omega arith) ∙ take_all n ts (omega arith) in
+    subst (AllSupports l b g) (sym front) all
 
 -- the refusal for want of a row is not the one for want of places
 pub rows_first : RowsFull ≡ MoreSupports → ⊥
 rows_first e = let z : ◌≡◌ {A = ℕ} 0 1 = cc in omega arith
 
--- with room made sure of, the row of the goal is there afterwards
-pub put_in : (rows rows' : List Row) (row : Row) (r : Bool) → (T r → (HasRow rows row.goal × (rows' ≡ rows)) ⊎ PutIn rows row rows')
-    → ((T r → ⊥) → (rows' ≡ rows) × (64 ≤ length rows) × NoRow rows row.goal) → (length rows < 64) ⊎ HasRow rows row.goal
-    → (HasRow rows row.goal × (rows' ≡ rows)) ⊎ PutIn rows row rows'
-put_in rows rows' row true held full room = held tt
-put_in rows rows' row false held full room =
-    let (_, many, none) = full (λ t. t) in
-    ⊎_elim (λ few. absurd (omega arith)) (λ (r, there, e). absurd (none r there e)) room
+module _ {K L : Type 0} (order : K → LabelOrder) (entails : L → Entailment) (s : Sheet K L) (g : Goal) (p w : ℕ) where
+  pub publish_goal : ((entails s.logic).TakesGoal g → ⊥) → Obeys order entails (Publish g p w) (Err (Logic GoalNotTaken)) s s
+  publish_goal never = refused order entails (Publish g p w) s (Logic GoalNotTaken) (λ b keeps. inl (never, refl))
 
-module _ (k : LabelOrder) (l : Entailment) (axioms : AxiomTable) (rows : RowTable) (g : Goal) (p w : ℕ) where
-  pub publish_goal : (l.TakesGoal g → ⊥) → Obeys k l (Publish g p w) (Refused (Logic GoalNotTaken)) axioms rows axioms rows
-  publish_goal never = refused k l (Publish g p w) axioms rows (Logic GoalNotTaken) (λ b keeps. inl (never, refl))
+  module _ (taken : (entails s.logic).TakesGoal g) where
+    pub publish_full : 64 ≤ length s.rows → NoRow s.rows g → Obeys order entails (Publish g p w) (Err RowsFull) s s
+    publish_full many none =
+        refused order entails (Publish g p w) s RowsFull
+        (λ b keeps. inr (λ never. never taken, inl ((unpublished (order s.kind) (entails s.logic) b s.axioms s.rows keeps g none, omega (arith, keeps.once)), refl)))
 
-  module _ (taken : l.TakesGoal g) where
-    pub publish_full : (Ascending ByGoal (shown rows) → (64 ≤ length (shown rows)) × NoRow (shown rows) g) → Obeys k l (Publish g p w) (Refused RowsFull) axioms rows axioms rows
-    publish_full full =
-        refused k l (Publish g p w) axioms rows RowsFull
-        (λ b keeps.
-        let (many, none) = full keeps.ascending in
-        inr (λ never. never taken, inl ((unpublished k l axioms rows b keeps g none, omega (arith, keeps.once)), refl)))
-
-    module _ (room : Ascending ByGoal (shown rows) → (length (shown rows) < 64) ⊎ HasRow (shown rows) g) where
-      has_room : (b : Book) → Keeps k l b (held axioms) (shown rows) → ((Published b g → ⊥) × (64 ≤ length b.published)) → ⊥
+    module _ (room : (length s.rows < 64) ⊎ HasRow s.rows g) where
+      has_room : (b : Book) → Holds order entails s b → ((Published b g → ⊥) × (64 ≤ length b.published)) → ⊥
       has_room b keeps (none, many) =
-          ⊎_elim (λ few. omega (arith, keeps.once)) (λ (r, there, e). none (subst (λ (x : Goal). Published b x) e (published k l axioms rows b keeps r there))) (room keeps.ascending)
+          ⊎_elim (λ few. omega (arith, keeps.once)) (λ (r, there, e). none (subst (λ (x : Goal). Published b x) e (published (order s.kind) (entails s.logic) b s.axioms s.rows keeps r there))) room
 
-      pub publish_short : w < l.bytes → Obeys k l (Publish g p w) (Refused ShortArea) axioms rows axioms rows
-      publish_short short =
-          refused k l (Publish g p w) axioms rows ShortArea
-          (λ b keeps. inr (λ never. never taken, inr (has_room b keeps, inl (short, refl))))
+      pub publish_lacks : (f : SheetFault) → Searches order entails s g p w (Err f) → Obeys order entails (Publish g p w) (Err f) s s
+      publish_lacks f found = refused order entails (Publish g p w) s f (λ b keeps. inr (λ never. never taken, inr (has_room b keeps, found b keeps)))
 
-      module _ (wide : l.bytes ≤ w) (places area places' area' : List ℕ) (size : length places ≡ p) (long : length places' ≡ length places) where
-        pub publish_more : (f : SheetFault) → ((b : Book) → Keeps k l b (held axioms) (shown rows) → Searched l b g places area (Err f) places' area')
-            → Obeys k l (Publish g p w) (Refused f) axioms rows axioms rows
-        publish_more f searched = λ b keeps.
-            let (more, many, _, _) = searched b keeps in
-            let P : SheetFault → Type 0 = λ e. Obeys k l (Publish g p w) (Refused e) axioms rows axioms rows in
-            subst P (sym more)
-            (refused k l (Publish g p w) axioms rows MoreSupports
-            (λ d kept.
-            let (_, many', _, _) = searched d kept in
-            inr (λ never. never taken, inr (has_room d kept, inr (λ short. omega arith, inl (subst (MoreThan k l d g) size many', refl))))))
-            b keeps
-
-        pub publish_answer : (n : ℕ) → ((b : Book) → Keeps k l b (held axioms) (shown rows) → Searched l b g places area (Ok n) places' area')
-            → (v : Option ℕ) → ((b : Book) → Keeps k l b (held axioms) (shown rows) → (h : Goal) → AllSupports l b h (take n places') → IsBoundary k l b h v)
-            → (rows' : RowTable)
-            → (Ascending ByGoal (shown rows) → (HasRow (shown rows) g × (shown rows' ≡ shown rows)) ⊎ PutIn (shown rows) (record { goal = g; boundary = v }) (shown rows'))
-            → Obeys k l (Publish g p w) (Count n) axioms rows axioms rows'
-        publish_answer n searched v bounds rows' put =
-            accepted k l (Publish g p w) axioms rows (Count n) axioms rows'
-            (λ b keeps.
-            let ((ss, is, count, filled), scrubbed) = searched b keeps in
-            let few : length ss ≤ p = omega (arith, fits k l ss n places places' count filled long) in
-            let all : take n places' ≡ ss = ap (take n) filled ∙ take-append-le n ss _ (omega arith) ∙ take_all n ss (omega arith) in
-            let right : Right k l b (record { goal = g; boundary = v }) = record { taken = taken; listed = (ss, is); boundary = bounds b keeps g (subst (AllSupports l b g) (sym all) is) } in (
-              (λ never. never taken, (has_room b keeps, (λ short. omega arith, (enough k l b g ss p is few, tt)))),
-              (ss, is, ap Count count),
-              ⊎_elim
-                  (λ ((r, there, e), old). rw old (kept_there k l b (held axioms) (shown rows) keeps g (subst (λ (x : Goal). Published b x) e (published k l axioms rows b keeps r there))))
-                  (λ new. kept_new k l b (held axioms) (shown rows) keeps g (unpublished k l axioms rows b keeps g new.0) v right (shown rows') new)
-                  (put keeps.ascending),
-            ))
+      pub publish_done : (n : ℕ) → Searches order entails s g p w (Ok n) → (v : Option ℕ) → ((b : Book) → Holds order entails s b → IsBoundary (order s.kind) (entails s.logic) b g v)
+          → (t : Sheet K L) → t.kind ≡ s.kind → t.logic ≡ s.logic → t.axioms ≡ s.axioms → Put s.rows (record { goal = g; boundary = v }) t.rows
+          → Obeys order entails (Publish g p w) (Ok (Count n)) s t
+      publish_done n found v bound t kind logic pages put =
+          accepted order entails (Publish g p w) s (Count n) t kind logic
+          (λ b keeps.
+          let k = order s.kind in
+          let l = entails s.logic in
+          let (none, (ss, is, count)) = found b keeps in
+          let right : Right k l b (record { goal = g; boundary = v }) = record { taken = taken; listed = (ss, is); boundary = bound b keeps } in
+          let kept : Keeps k l (record { pages = b.pages; published = note g b.published }) s.axioms t.rows =
+          ⊎_elim
+          (λ ((r, there, e), old). rw old (kept_there k l b s.axioms s.rows keeps g (subst (λ (x : Goal). Published b x) e (published k l b s.axioms s.rows keeps r there))))
+          (λ (new, more). kept_new k l b s.axioms s.rows keeps g (unpublished k l b s.axioms s.rows keeps g new) v right t.rows more)
+          put in
+          ((λ never. never taken, (has_room b keeps, none)), (ss, is, ap Count count), rw (kind, logic, pages) kept))

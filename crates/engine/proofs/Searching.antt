@@ -1,5 +1,6 @@
 -- The search over the table's axioms is the search over the book's.
-use Rattle.std.proofs.Common.{◌≡◌, ℕ, suc, ◌-◌, ◌/◌, ◌^◌, ◌<◌, ◌≤◌, List, [], ◌∷◌, length, Some, None, Ok, Err, Option, sym, refl, ap, ◌∙◌, subst, inl, inr, ⊎_elim, arith, pow_pos}
+use Rattle.std.proofs.Common.{◌≡◌, ℕ, suc, ◌-◌, ◌/◌, ◌^◌, ◌<◌, ◌≤◌, List, [], ◌∷◌, ◌++◌, length, replicate, Some, None, Option, sym, refl, ap, ◌∙◌, subst, inl, inr, ⊎_elim, arith, pow_pos}
+use Rattle.std.specs.Option.{ok_or}
 use Rattle.base.specs.Bits.{Has}
 use Rattle.base.specs.Words.{Iff, In}
 use Rattle.base.proofs.Sets.{has_ones, subset_le}
@@ -15,7 +16,11 @@ use Rattle.engine.specs.Pages.{At, Standing, records_of}
 use Rattle.engine.specs.Book.{Book}
 use Rattle.engine.specs.Sight.{entries, InForce}
 use Rattle.engine.specs.Keeps.{Keeps}
-use Rattle.engine.specs.Searched.{Searched}
+use Rattle.engine.specs.Law.{SearchLeaves, buffers}
+use Rattle.engine.specs.Keeps.{answer}
+use Rattle.engine.specs.Obeys.{Finds}
+use Rattle.engine.proofs.Supporting.{enough, fits}
+use Rattle.engine.specs.declared.call.Answer.TheVariants.{Count}
 use Rattle.engine.proofs.Force.{all_of_book, more_of_book}
 
 -- a set of places below n, as a number
@@ -61,14 +66,22 @@ module _ (k : LabelOrder) (l : Entailment) (b : Book) (pages : List Page) (rows 
       subst (λ (rs : List Record). Found l rs all g places area r places' area') (same ∙ ap records_of (sym keeps.book))
 
   -- what was found, by the book
-  pub found_all : (places area : List ℕ) (n : ℕ) (places' area' : List ℕ) → Found l records all g places area (Some n) places' area'
-      → Searched l b g places area (Ok n) places' area'
-  found_all places area n places' area' found =
+  pub found_by : (places area : List ℕ) (o : Option ℕ) (places' area' : List ℕ) → l.bytes ≤ length area → length places' ≡ length places → Found l records all g places area o places' area'
+      → Finds k l b g (length places) (length area) (ok_or o MoreSupports)
+  found_by places area (Some n) places' area' wide long found =
       let ((ss, is, count, filled), scrubbed) = listed (Some n) places area places' area' found in
-      ((ss, all_of_book l b g all by_book ss is, count, filled), scrubbed)
-
-  pub found_more : (places area places' area' : List ℕ) → Found l records all g places area None places' area'
-      → Searched l b g places area (Err MoreSupports) places' area'
-  found_more places area places' area' found =
+      let all_book = all_of_book l b g all by_book ss is in
+      ((λ short. omega arith, (enough k l b g ss (length places) all_book (omega (arith, fits k l ss n places places' count filled long)), tt)), (ss, all_book, count))
+  found_by places area None places' area' wide long found =
       let more = listed None places area places' area' found in
-      (refl, more_of_book l b g all by_book k (length places) more.0, more.1, more.2)
+      inr (λ short. omega arith, inl (more_of_book l b g all by_book k (length places) more.0, refl))
+
+  -- and what it leaves
+  pub found_leaves : (places area : List ℕ) (o : Option ℕ) (places' area' : List ℕ) → Found l records all g places area o places' area'
+      → SearchLeaves k l b g (answer Count (ok_or o MoreSupports)) (buffers places area) (buffers places' area')
+  found_leaves places area (Some n) places' area' found =
+      let ((ss, is, count, filled), scrubbed) = listed (Some n) places area places' area' found in
+      ((ss, all_of_book l b g all by_book ss is, filled ∙ ap (λ (m : ℕ). ss ++ replicate (length places - m) 0) count), scrubbed)
+  found_leaves places area None places' area' found =
+      let more = listed None places area places' area' found in
+      inl (refl, more.1, more.2)

@@ -1,20 +1,21 @@
 -- Supports, boundary, rows, answer and book are determined by the book before the call.
-use Rattle.std.proofs.Common.{◌≡◌, ℕ, ◌-◌, Bool, true, false, T, List, [], ◌∷◌, ◌++◌, length, get_or, take, drop, replicate, Option, sym, refl, ap, ◌∙◌, subst, ap₂, inl, inr, take-append-drop}
+use Rattle.std.proofs.Common.{◌≡◌, ℕ, ◌-◌, Bool, true, false, T, List, ◌++◌, length, get_or, take, drop, replicate, Option, Ok, Err, Result, sym, refl, ap, ◌∙◌, subst, ap₂, inl, inr, take-append-drop}
+use Rattle.base.proofs.Checks.{first_unique, none_first}
 use Rattle.labels.specs.Order.{LabelOrder, Lawful}
 use Rattle.logics.specs.Entailment.{Entailment, Goal}
 use Rattle.ordered.proofs.Lists.{ascending_unique}
-use Rattle.ordered.specs.SetsLemmas.{before_ranking}
 use Rattle.engine.specs.declared.call.Call.{Call}
 use Rattle.engine.specs.declared.call.Call.TheVariants.{Enter, Withdraw, Relabel, Supports, Publish, Boundary, Row, See}
 use Rattle.engine.specs.declared.call.Answer.{Answer}
-use Rattle.engine.specs.declared.call.Answer.TheVariants.{Entered, Done, Count, Bound, RowAt, Seen, Refused}
+use Rattle.engine.specs.declared.call.Answer.TheVariants.{Entered, Done, Count, Bound, RowAt, Seen}
 use Rattle.engine.specs.declared.call.SheetFault.{SheetFault}
 use Rattle.engine.specs.Book.{Book}
 use Rattle.engine.specs.Sight.{AllSupports, IsBoundary}
-use Rattle.engine.specs.Law.{RowGoals, Buffers, front, back, SearchLeaves, Leaves, FirstOf, NoneOf, Answered, Lawfully, Next, checks}
+use Rattle.engine.specs.Law.{RowGoals, Buffers, front, back, SearchLeaves, Leaves, Answered, Lawfully, Next, checks}
 use Rattle.engine.specs.Determined.{Determined}
 use Rattle.engine.proofs.Rowing.{smaller_ranking}
 use Rattle.engine.proofs.Boundaries.{boundary_unique}
+use Rattle.engine.proofs.Supporting.{supports_unique}
 
 same_answer : (r q : Bool) → (T r → T q) → (T q → T r) → r ≡ q
 same_answer true true there back = refl
@@ -38,25 +39,8 @@ whole p w d e first rest =
     (halves w d.area e.area (ap (λ (x : Buffers). x.area) first) (ap (λ (x : Buffers). x.area) rest))
 
 module _ (k : LabelOrder) (laws : Lawful k) (l : Entailment) (b : Book) where
-  supports_unique : (g : Goal) (ss ts : List ℕ) → AllSupports l b g ss → AllSupports l b g ts → ss ≡ ts
-  supports_unique g ss ts is js =
-      ascending_unique before_ranking ss ts is.ascending js.ascending (λ s. (λ h. js.complete s (is.sound s h), λ h. is.complete s (js.sound s h)))
-
-  -- the first case that holds is one
-  first_unique : (cs : List (SheetFault × Type 0)) (f h : SheetFault) → FirstOf k l b cs f → FirstOf k l b cs h → f ≡ h
-  first_unique [] f h first other = absurd first
-  first_unique (c ∷ cs) f h (inl (_, is)) (inl (_, js)) = sym is ∙ js
-  first_unique (c ∷ cs) f h (inl (holds, _)) (inr (fails, _)) = absurd (fails holds)
-  first_unique (c ∷ cs) f h (inr (fails, _)) (inl (holds, _)) = absurd (fails holds)
-  first_unique (c ∷ cs) f h (inr (_, rest)) (inr (_, more)) = first_unique cs f h rest more
-
-  none_first : (cs : List (SheetFault × Type 0)) (f : SheetFault) → NoneOf k l b cs → FirstOf k l b cs f → ⊥
-  none_first [] f none first = first
-  none_first (c ∷ cs) f (fails, none) (inl (holds, _)) = fails holds
-  none_first (c ∷ cs) f (fails, none) (inr (_, rest)) = none_first cs f none rest
-
   counted_once : (g : Goal) (x y : Answer) → ((ss : List ℕ) × AllSupports l b g ss × (x ≡ Count (length ss))) → ((ss : List ℕ) × AllSupports l b g ss × (y ≡ Count (length ss))) → x ≡ y
-  counted_once g x y (ss, is, e) (ts, js, e') = e ∙ ap (λ (us : List ℕ). Count (length us)) (supports_unique g ss ts is js) ∙ sym e'
+  counted_once g x y (ss, is, e) (ts, js, e') = e ∙ ap (λ (us : List ℕ). Count (length us)) (supports_unique l b g ss ts is js) ∙ sym e'
 
   answered_unique : (c : Call) (x y : Answer) → Answered k l b c x → Answered k l b c y → x ≡ y
   answered_unique (Enter r a) x y e e' = e ∙ sym e'
@@ -72,11 +56,11 @@ module _ (k : LabelOrder) (laws : Lawful k) (l : Entailment) (b : Book) where
   answered_unique (See u g) x y (r, is, e) (q, js, e') =
       e ∙ ap (λ (t : Bool). Seen t) (same_answer r q (λ t. js.1 (is.0 t)) (λ t. is.1 (js.0 t))) ∙ sym e'
 
-  lawful_unique : (c : Call) (x y : Answer) → Lawfully k l b c x → Lawfully k l b c y → x ≡ y
-  lawful_unique c x y (inl (f, by, e)) (inl (h, other, e')) = e ∙ ap (λ (z : SheetFault). Refused z) (first_unique (checks k l b c) f h by other) ∙ sym e'
-  lawful_unique c x y (inl (f, by, e)) (inr (ok, _)) = absurd (none_first (checks k l b c) f ok by)
-  lawful_unique c x y (inr (ok, _)) (inl (f, by, e)) = absurd (none_first (checks k l b c) f ok by)
-  lawful_unique c x y (inr (_, is)) (inr (_, js)) = answered_unique c x y is js
+  lawful_unique : (c : Call) (x y : Result Answer SheetFault) → Lawfully k l b c x → Lawfully k l b c y → x ≡ y
+  lawful_unique c (Ok x) (Ok y) (_, is) (_, js) = ap Ok (answered_unique c x y is js)
+  lawful_unique c (Ok x) (Err h) (ok, _) by = absurd (none_first (checks k l b c) h ok by)
+  lawful_unique c (Err f) (Ok y) by (ok, _) = absurd (none_first (checks k l b c) f ok by)
+  lawful_unique c (Err f) (Err h) by other = ap Err (first_unique (checks k l b c) f h by other)
 
   next_unique : (c : Call) (d e : Book) → Next k l b c d → Next k l b c e → d ≡ e
   next_unique c d e (inl (f, by, is)) (inl (h, other, js)) = is ∙ sym js
@@ -84,23 +68,23 @@ module _ (k : LabelOrder) (laws : Lawful k) (l : Entailment) (b : Book) where
   next_unique c d e (inr (ok, is)) (inl (f, by, js)) = absurd (none_first (checks k l b c) f ok by)
   next_unique c d e (inr (_, is)) (inr (_, js)) = is ∙ sym js
 
-  search_leaves_unique : (g : Goal) (x : Answer) (d e f : Buffers) → SearchLeaves k l b g x d e → SearchLeaves k l b g x d f → e ≡ f
-  search_leaves_unique g (Count n) d e f ((ss, is, left), bytes) ((ts, js, left'), bytes') =
-      let same : ss ≡ ts = supports_unique g ss ts is js in
+  search_leaves_unique : (g : Goal) (x : Result Answer SheetFault) (d e f : Buffers) → SearchLeaves k l b g x d e → SearchLeaves k l b g x d f → e ≡ f
+  search_leaves_unique g (Ok (Count n)) d e f ((ss, is, left), bytes) ((ts, js, left'), bytes') =
+      let same : ss ≡ ts = supports_unique l b g ss ts is js in
       ap₂ (λ (us vs : List ℕ). record { places = us; area = vs })
       (left ∙ ap (λ (us : List ℕ). us ++ replicate (length d.places - length us) 0) same ∙ sym left') (bytes ∙ sym bytes')
-  search_leaves_unique g (Refused h) d e f (inl (_, left, bytes)) (inl (_, left', bytes')) =
+  search_leaves_unique g (Err h) d e f (inl (_, left, bytes)) (inl (_, left', bytes')) =
       ap₂ (λ (us vs : List ℕ). record { places = us; area = vs }) (left ∙ sym left') (bytes ∙ sym bytes')
-  search_leaves_unique g (Refused h) d e f (inl (more, _, _)) (inr (other, _)) = absurd (other more)
-  search_leaves_unique g (Refused h) d e f (inr (other, _)) (inl (more, _, _)) = absurd (other more)
-  search_leaves_unique g (Refused h) d e f (inr (_, is)) (inr (_, js)) = is ∙ sym js
-  search_leaves_unique g (Entered n) d e f left other = absurd left
-  search_leaves_unique g Done d e f left other = absurd left
-  search_leaves_unique g (Bound v) d e f left other = absurd left
-  search_leaves_unique g (RowAt r) d e f left other = absurd left
-  search_leaves_unique g (Seen r) d e f left other = absurd left
+  search_leaves_unique g (Err h) d e f (inl (more, _, _)) (inr (other, _)) = absurd (other more)
+  search_leaves_unique g (Err h) d e f (inr (other, _)) (inl (more, _, _)) = absurd (other more)
+  search_leaves_unique g (Err h) d e f (inr (_, is)) (inr (_, js)) = is ∙ sym js
+  search_leaves_unique g (Ok (Entered n)) d e f left other = absurd left
+  search_leaves_unique g (Ok Done) d e f left other = absurd left
+  search_leaves_unique g (Ok (Bound v)) d e f left other = absurd left
+  search_leaves_unique g (Ok (RowAt r)) d e f left other = absurd left
+  search_leaves_unique g (Ok (Seen r)) d e f left other = absurd left
 
-  leaves_unique : (c : Call) (x : Answer) (d e f : Buffers) → Leaves k l b c x d e → Leaves k l b c x d f → e ≡ f
+  leaves_unique : (c : Call) (x : Result Answer SheetFault) (d e f : Buffers) → Leaves k l b c x d e → Leaves k l b c x d f → e ≡ f
   leaves_unique (Enter r a) x d e f is js = is ∙ sym js
   leaves_unique (Withdraw n) x d e f is js = is ∙ sym js
   leaves_unique (Relabel n a) x d e f is js = is ∙ sym js
@@ -114,7 +98,7 @@ module _ (k : LabelOrder) (laws : Lawful k) (l : Entailment) (b : Book) where
 
 pub determined : (k : LabelOrder) → Lawful k → (l : Entailment) → Determined k l
 determined k laws l = record {
-  supports = supports_unique k laws l;
+  supports = λ b g ss ts. supports_unique l b g ss ts;
   boundary = λ b g v w. boundary_unique k l b g laws v w;
   rows = rows_unique;
   answer = lawful_unique k laws l;

@@ -8,15 +8,10 @@ use Rattle.engine.specs.declared.page.Page.{Page}
 use Rattle.engine.specs.declared.page.Row.{Row}
 use Rattle.engine.specs.declared.call.SheetFault.{SheetFault}
 use Rattle.engine.specs.declared.call.Answer.{Answer}
-use Rattle.engine.specs.declared.call.Answer.TheVariants.{Refused}
 use Rattle.engine.specs.Pages.{At}
 use Rattle.engine.specs.Book.{Book}
 use Rattle.engine.specs.Sight.{AllSupports, IsBoundary}
-use Rattle.engine.specs.Law.{Smaller}
-
--- a row comes before another by its goal
-abbrev pub ByGoal : Row → Row → Type 0
-ByGoal r s = Smaller r.goal s.goal
+use Rattle.engine.specs.Rows.{ByGoal}
 
 -- a row holds its goal's boundary, and all supports of the goal are known to exist as a list
 pub record Right (k : LabelOrder) (l : Entailment) (b : Book) (r : Row) : Type 0 where
@@ -35,6 +30,6 @@ pub record Keeps (k : LabelOrder) (l : Entailment) (b : Book) (pages : List Page
   pub right : (r : Row) → In r rows → Right k l b r
 
 -- the answer that a result stands for
-abbrev pub answer : {A : Type 0} → (A → Answer) → Result A SheetFault → Answer
-answer f (Ok x) = f x
-answer f (Err e) = Refused e
+abbrev pub answer : {A : Type 0} → (A → Answer) → Result A SheetFault → Result Answer SheetFault
+answer f (Ok x) = Ok (f x)
+answer f (Err e) = Err e

@@ -1,6 +1,7 @@
 -- Which calls are refused and why, what the others answer and leave, and the law of a history.
-use Rattle.std.specs.Prelude.{◌≡◌, ℕ, ◌+◌, ◌-◌, ◌<◌, ◌≤◌, min, Bool, T, ◌⊎◌, List, [], ◌∷◌, ◌++◌, length, take, drop, replicate, Option, ◌≢◌, slice_index_or}
+use Rattle.std.specs.Prelude.{◌≡◌, ℕ, ◌+◌, ◌-◌, ◌<◌, ◌≤◌, min, Bool, T, ◌⊎◌, List, [], ◌∷◌, ◌++◌, length, take, drop, replicate, Option, Ok, Err, Result, ◌≢◌, slice_index_or}
 use Rattle.base.specs.Words.{Iff, In}
+use Rattle.base.specs.Checks.{FirstOf, NoneOf}
 use Rattle.labels.specs.Order.{LabelOrder, Label, JoinPrime}
 use Rattle.labels.specs.Fault.{number as number_of_kind}
 use Rattle.labels.specs.declared.fault.KindFault.TheVariants.{NotALabel, NotAdmitted}
@@ -14,7 +15,8 @@ use Rattle.engine.specs.declared.call.Call.TheVariants.{Enter, Withdraw, Relabel
 use Rattle.engine.specs.declared.call.SheetFault.{SheetFault}
 use Rattle.engine.specs.declared.call.SheetFault.TheVariants.{Full, NoSuchAxiom, WithdrawnAlready, ShortArea, MoreSupports, RowsFull, NotPublished, Kind, Logic}
 use Rattle.engine.specs.declared.call.Answer.{Answer}
-use Rattle.engine.specs.declared.call.Answer.TheVariants.{Entered, Done, Count, Bound, RowAt, Seen, Refused}
+use Rattle.engine.specs.declared.call.Answer.TheVariants.{Entered, Done, Count, Bound, RowAt, Seen}
+use Rattle.engine.specs.Pages.{NoPage}
 use Rattle.engine.specs.Book.{Book, after}
 use Rattle.engine.specs.Sight.{entries, InForce, AllSupports, IsBoundary, Sees}
 
@@ -42,12 +44,15 @@ pub record RowGoals (b : Book) (gs : List Goal) : Type 0 where
   pub ascending : Ascending Smaller gs
 
 abbrev pub NoAxiom : Book → ℕ → Type 0
-NoAxiom b n = (n ≡ 0) ⊎ (length b.pages < n)
+NoAxiom b n = NoPage b.pages n
 
 -- the places and the bytes of work area at hand
 pub record Buffers : Type 0 where
   pub places : List ℕ
   pub area : List ℕ
+
+abbrev pub buffers : List ℕ → List ℕ → Buffers
+buffers places area = record { places = places; area = area }
 
 -- the first p places and w bytes
 abbrev pub front : ℕ → ℕ → Buffers → Buffers
@@ -73,15 +78,7 @@ module _ (k : LabelOrder) (l : Entailment) (b : Book) where
   checks (Row i) = (NotPublished, (gs : List Goal) × RowGoals b gs × (length gs ≤ i)) ∷ []
   checks (See u g) = (Logic GoalNotTaken, (l.TakesGoal g → ⊥)) ∷ (Kind NotALabel, (Label k u → ⊥)) ∷ (Kind NotAdmitted, (JoinPrime k u → ⊥)) ∷ (NotPublished, (Published b g → ⊥)) ∷ []
 
-  -- the first case that holds gives the fault
-  abbrev pub FirstOf : List (SheetFault × Type 0) → SheetFault → Type 0
-  FirstOf [] f = ⊥
-  FirstOf (c ∷ cs) f = (c.1 × (c.0 ≡ f)) ⊎ ((c.1 → ⊥) × FirstOf cs f)
-
-  abbrev pub NoneOf : List (SheetFault × Type 0) → Type 0
-  NoneOf [] = Unit {0}
-  NoneOf (c ∷ cs) = (c.1 → ⊥) × NoneOf cs
-
+  -- the first case that holds gives the fault, and where none holds the call is accepted
   abbrev pub RefusedBy : Call → SheetFault → Type 0
   RefusedBy c f = FirstOf (checks c) f
 
@@ -107,18 +104,18 @@ module _ (k : LabelOrder) (l : Entailment) (b : Book) where
   abbrev pub Zeroed : List ℕ → List ℕ → Type 0
   Zeroed before now = now ≡ replicate (length before) 0
 
-  abbrev pub SearchLeaves : Goal → Answer → Buffers → Buffers → Type 0
-  SearchLeaves g (Count n) d e = Filled g d.places e.places × Scrubbed l.bytes d.area e.area
-  SearchLeaves g (Refused f) d e =
+  abbrev pub SearchLeaves : Goal → Result Answer SheetFault → Buffers → Buffers → Type 0
+  SearchLeaves g (Ok (Count n)) d e = Filled g d.places e.places × Scrubbed l.bytes d.area e.area
+  SearchLeaves g (Err f) d e =
       ((f ≡ MoreSupports) × Zeroed d.places e.places × Scrubbed l.bytes d.area e.area) ⊎ ((f ≢ MoreSupports) × (e ≡ d))
-  SearchLeaves g (Entered n) d e = ⊥
-  SearchLeaves g Done d e = ⊥
-  SearchLeaves g (Bound v) d e = ⊥
-  SearchLeaves g (RowAt r) d e = ⊥
-  SearchLeaves g (Seen r) d e = ⊥
+  SearchLeaves g (Ok (Entered n)) d e = ⊥
+  SearchLeaves g (Ok Done) d e = ⊥
+  SearchLeaves g (Ok (Bound v)) d e = ⊥
+  SearchLeaves g (Ok (RowAt r)) d e = ⊥
+  SearchLeaves g (Ok (Seen r)) d e = ⊥
 
   -- the places and bytes that a call is given
-  abbrev pub Leaves : Call → Answer → Buffers → Buffers → Type 0
+  abbrev pub Leaves : Call → Result Answer SheetFault → Buffers → Buffers → Type 0
   Leaves (Enter r a) x d e = e ≡ d
   Leaves (Withdraw n) x d e = e ≡ d
   Leaves (Relabel n a) x d e = e ≡ d
@@ -129,8 +126,9 @@ module _ (k : LabelOrder) (l : Entailment) (b : Book) where
   Leaves (See u g) x d e = e ≡ d
 
   -- the law of a call: a refusal by its first case, or the answer of the book
-  abbrev pub Lawfully : Call → Answer → Type 0
-  Lawfully c x = ((f : SheetFault) × RefusedBy c f × (x ≡ Refused f)) ⊎ (Accepted c × Answered c x)
+  abbrev pub Lawfully : Call → Result Answer SheetFault → Type 0
+  Lawfully c (Ok x) = Accepted c × Answered c x
+  Lawfully c (Err f) = RefusedBy c f
 
 -- a call with as many places and bytes as it asks for, where there are so many
 abbrev pub given : ℕ → ℕ → Call → Call
@@ -149,7 +147,7 @@ Next k l b c d = ((f : SheetFault) × RefusedBy k l b c f × (d ≡ b)) ⊎ (Acc
 
 -- the law of a history: each answer is the lawful one by the book of the calls before it, and each call leaves the
 -- buffers as it should
-abbrev pub Run : LabelOrder → Entailment → Book → Buffers → List Call → List Answer → Buffers → Type 0
+abbrev pub Run : LabelOrder → Entailment → Book → Buffers → List Call → List (Result Answer SheetFault) → Buffers → Type 0
 Run k l b d [] [] e = e ≡ d
 Run k l b d [] (x ∷ xs) e = ⊥
 Run k l b d (c ∷ cs) [] e = ⊥

@@ -2,10 +2,9 @@ pub mod Pages
 pub mod Book
 pub mod Sight
 pub mod Law
+pub mod Rows
 pub mod Keeps
 pub mod Obeys
-pub mod Searched
-pub mod Widened
 pub mod Makes
 pub mod Determined
 pub mod Answers

@@ -1,5 +1,5 @@
 -- Pages of a book, and what a call changes in them.
-use Rattle.std.specs.Prelude.{◌≡◌, ℕ, ◌-◌, ◌<◌, false, cond, T, List, [], ◌∷◌, map, length, ◌==◌, slice_index_or}
+use Rattle.std.specs.Prelude.{◌≡◌, ℕ, ◌-◌, ◌<◌, false, cond, T, ◌⊎◌, List, [], ◌∷◌, map, length, ◌==◌, slice_index_or}
 use Rattle.logics.specs.declared.Record.{Record}
 use Rattle.engine.specs.declared.page.Page.{Page}
 
@@ -17,6 +17,10 @@ relabelled a p = record { entry = p.entry; label = a; stands = p.stands }
 -- p is the page at place i
 abbrev pub At : List Page → ℕ → Page → Type 0
 At ps i p = (i < length ps) × (slice_index_or ps i p ≡ p)
+
+-- no page has the number
+abbrev pub NoPage : List Page → ℕ → Type 0
+NoPage ps n = (n ≡ 0) ⊎ (length ps < n)
 
 -- the page at place i is in force
 abbrev pub Standing : List Page → ℕ → Type 0

@@ -1,11 +1,11 @@
 ghost use Rattle.std.specs.Prelude.{◌≡◌};
-ghost use Rattle.engine.specs.Answers.{told};
 ghost use Rattle.engine.specs.Law.{number as number_of};
+ghost use Rattle.engine.specs.declared.call.SheetFault.TheVariants.{Kind, Logic};
 
 use labels::fault::KindFault;
 use logics::{LogicFault, Record};
 
-#[derive(Clone, Copy)]
+#[derive(Clone, Copy, PartialEq, Eq, Debug)]
 pub enum Call {
     Enter(Record, u32),
     Withdraw(u32),
@@ -18,7 +18,19 @@ pub enum Call {
     See(u32, (u32, u32)),
 }
 
-#[derive(Clone, Copy)]
+// What an accepted call answers.
+#[derive(Clone, Copy, PartialEq, Eq, Debug)]
+pub enum Answer {
+    Entered(u32),
+    Done,
+    Count(usize),
+    Bound(Option<u32>),
+    RowAt(((u32, u32), Option<u32>)),
+    Seen(bool),
+}
+
+// Why a call is refused. The fault of a label kind or of a logic is held whole.
+#[derive(Clone, Copy, PartialEq, Eq, Debug)]
 pub enum SheetFault {
     Full,
     NoSuchAxiom,
@@ -31,15 +43,20 @@ pub enum SheetFault {
     Logic(LogicFault),
 }
 
-#[derive(Clone, Copy)]
-pub enum Answer {
-    Entered(u32),
-    Done,
-    Count(usize),
-    Bound(Option<u32>),
-    RowAt(((u32, u32), Option<u32>)),
-    Seen(bool),
-    Refused(SheetFault),
+impl From<KindFault> for SheetFault {
+    ghost from_gives = { λ f g. g ≡ Kind f };
+
+    fn from(fault: KindFault) -> SheetFault {
+        SheetFault::Kind(fault)
+    }
+}
+
+impl From<LogicFault> for SheetFault {
+    ghost from_gives = { λ f g. g ≡ Logic f };
+
+    fn from(fault: LogicFault) -> SheetFault {
+        SheetFault::Logic(fault)
+    }
 }
 
 impl SheetFault {
@@ -57,18 +74,6 @@ impl SheetFault {
             SheetFault::NotPublished => 18,
             SheetFault::Kind(fault) => fault.number(),
             SheetFault::Logic(fault) => fault.number(),
-        }
-    }
-}
-
-impl Answer {
-    // The number of the refusal, and 0 where the call was accepted.
-    pub fn refusal(self) -> u32
-        ensures { result ≡ (told self).0 }
-    {
-        match self {
-            Answer::Refused(fault) => fault.number(),
-            _ => 0,
         }
     }
 }

@@ -1,7 +1,7 @@
 use logics::Record;
 
 // An axiom that was entered: its record, its latest label, and whether it is in force.
-#[derive(Clone, Copy)]
+#[derive(Clone, Copy, PartialEq, Eq, Debug, Default)]
 pub struct Page {
     pub entry: Record,
     pub label: u32,
@@ -9,7 +9,7 @@ pub struct Page {
 }
 
 // A published goal and its boundary, absent where the goal has no support.
-#[derive(Clone, Copy)]
+#[derive(Clone, Copy, PartialEq, Eq, Debug, Default)]
 pub struct Row {
     pub goal: (u32, u32),
     pub boundary: Option<u32>,

@@ -1,11 +1,11 @@
-ghost use Rattle.std.specs.Prelude.{◌≡◌, ◌+◌, ◌<◌, ◌≤◌, T, ◌⊎◌, [], length, take, MatchOption, ◌≢◌, slice_index_or};
+ghost use Rattle.std.specs.Prelude.{◌≡◌, ◌<◌, ◌≤◌, T, ◌⊎◌, [], length, MatchOption, slice_get};
 ghost use Rattle.base.specs.Words.{Iff, In};
-ghost use Rattle.ordered.specs.Lists.{Ascending};
-ghost use Rattle.engine.specs.Keeps.{ByGoal};
+ghost use Rattle.engine.specs.Rows.{ByGoal, HasRow, NoRow, Put};
 ghost use Rattle.std.proofs.Common.{rules};
 
 use crate::page::Row;
 use ordered::{Ranked, insert, place_of};
+use std::marker::Model;
 
 // Rows by their goals: by the first number, then by the second.
 impl Ranked for Row {
@@ -14,103 +14,93 @@ impl Ranked for Row {
     ghost ranking = { Prim.search rules };
 
     fn comes_before(self, other: Row) -> bool {
-        if self.goal.0 == other.goal.0 {
-            self.goal.1 < other.goal.1
-        } else {
-            self.goal.0 < other.goal.0
-        }
+        self.goal < other.goal
     }
 }
 
-// The rows of the published goals: the first `count` of 64, ascending by goal.
-#[derive(Clone, Copy)]
+// The rows of the published goals, one each, ascending by goal: the first `count` of 64.
+// Kept: an array with a count, since insertion is written once, over slices, for rows and for supports.
+#[derive(Drop)]
 pub struct RowTable {
-    pub(crate) rows: [Row; 64],
-    pub(crate) count: usize,
-    ghost few: { count ≤ 64 },
-    ghost long: { length rows ≡ 64 },
+    rows: [Row; 64],
+    count: usize,
 }
 
-const NO_ROW: Row = Row {
-    goal: (0, 0),
-    boundary: None,
-};
+impl Model for RowTable {
+    ghost use Rattle.std.specs.Prelude.{List, take};
+    ghost use Rattle.engine.specs.declared.page.Row.{Row as AnyRow};
+    ghost use Rattle.engine.specs.Rows.{Filled};
+
+    ghost Value = { List AnyRow };
+
+    ghost view = { λ t. take t.count t.rows };
+
+    ghost invariant = { λ t. Filled t.rows t.count };
+}
 
 impl RowTable {
+    ghost use Rattle.ordered.specs.Lists.{Ascending};
+
     pub(crate) fn new() -> RowTable
-        ensures { take result.count result.rows ≡ [] }
+        ensures { result ≡ [] }
     {
         RowTable {
-            rows: [NO_ROW; 64],
+            rows: [Row::default(); 64],
             count: 0,
         }
     }
 
     // No row is left.
     pub(crate) fn clear(&mut self)
-        ensures { take self.new.count self.new.rows ≡ [] }
+        ensures { self.new ≡ [] }
     {
         self.count = 0;
     }
 
+    // The rows, in order.
+    pub(crate) fn rows(&self) -> &[Row]
+        ensures is { result.now ≡ self.now }
+        ensures ascending { Ascending ByGoal self.now }
+    {
+        &self.rows[..self.count]
+    }
+
     // The boundary in the row of the goal. `None` where no row is of the goal.
     pub(crate) fn lookup(&self, goal: (u32, u32)) -> Option<Option<u32>>
-        ensures { Ascending ByGoal (take self.now.count self.now.rows) → MatchOption result ((x : Row) → In x (take self.now.count self.now.rows) → x.goal ≢ goal) (λ v. In {A = Row} (record { goal = goal; boundary = v }) (take self.now.count self.now.rows)) }
+        ensures { MatchOption result (NoRow self.now goal) (λ v. In (record { goal = goal; boundary = v }) self.now) }
     {
+        let rows = self.rows();
         let key = Row {
             goal,
             boundary: None,
         };
-        match place_of(&self.rows[0..self.count], key) {
-            Ok(place) => {
-                let row = self.rows[place];
-                Some(row.boundary)
-            }
-            Err(_) => None,
-        }
+        let place = place_of(rows, key).ok()?;
+        Some(rows[place].boundary)
     }
 
     // Is there a row of the goal, or a place for one?
     pub(crate) fn has_room(&self, goal: (u32, u32)) -> bool
-        ensures room { Ascending ByGoal (take self.now.count self.now.rows) → T result → (length (take self.now.count self.now.rows) < 64) ⊎ ((x : Row) × In x (take self.now.count self.now.rows) × (x.goal ≡ goal)) }
-        ensures full { Ascending ByGoal (take self.now.count self.now.rows) → (T result → ⊥) → (64 ≤ length (take self.now.count self.now.rows)) × ((x : Row) → In x (take self.now.count self.now.rows) → x.goal ≢ goal) }
+        ensures room { T result → (length self.now < 64) ⊎ HasRow self.now goal }
+        ensures full { (T result → ⊥) → (64 ≤ length self.now) × NoRow self.now goal }
     {
-        if self.count < 64 {
-            return true;
-        }
-        match self.lookup(goal) {
-            Some(_) => true,
-            None => false,
-        }
+        self.count < 64 || self.lookup(goal).is_some()
     }
 
-    // Puts a row in its place, unless one of its goal is there. No where it is not and no place is left.
-    pub(crate) fn put(&mut self, row: Row) -> bool
-        ensures held { Ascending ByGoal (take self.old.count self.old.rows) → T result → (((x : Row) × In x (take self.old.count self.old.rows) × (x.goal ≡ row.goal)) × (take self.new.count self.new.rows ≡ take self.old.count self.old.rows)) ⊎ (((x : Row) → In x (take self.old.count self.old.rows) → x.goal ≢ row.goal) × ((x : Row) → Iff (In x (take self.new.count self.new.rows)) ((x ≡ row) ⊎ In x (take self.old.count self.old.rows))) × Ascending ByGoal (take self.new.count self.new.rows) × (length (take self.new.count self.new.rows) ≡ length (take self.old.count self.old.rows) + 1)) }
-        ensures full { Ascending ByGoal (take self.old.count self.old.rows) → (T result → ⊥) → (take self.new.count self.new.rows ≡ take self.old.count self.old.rows) × (64 ≤ length (take self.old.count self.old.rows)) × ((x : Row) → In x (take self.old.count self.old.rows) → x.goal ≢ row.goal) }
+    // Puts a row in its place, unless one of its goal is there.
+    pub(crate) fn put(&mut self, row: Row)
+        requires { (length self.old < 64) ⊎ HasRow self.old row.goal }
+        ensures { Put self.old row self.new }
     {
-        let count = self.count;
-        match place_of(&self.rows[0..count], row) {
-            Ok(_) => true,
-            Err(place) => {
-                if insert(&mut self.rows, count, place, row) {
-                    self.count = count + 1;
-                    true
-                } else {
-                    false
-                }
-            }
+        if let Err(place) = place_of(self.rows(), row) {
+            insert(&mut self.rows, self.count, place, row);
+            self.count += 1;
         }
     }
 
     // The row at a place.
-    pub(crate) fn at(&self, place: usize) -> Option<Row>
-        ensures { MatchOption result (length (take self.now.count self.now.rows) ≤ place) (λ x. (place < length (take self.now.count self.now.rows)) × (slice_index_or (take self.now.count self.now.rows) place x ≡ x)) }
+    pub(crate) fn get(&self, place: usize) -> Option<Row>
+        ensures { result ≡ slice_get self.now place }
     {
-        if place < self.count {
-            Some(self.rows[place])
-        } else {
-            None
-        }
+        self.rows().get(place).copied()
     }
 }

@@ -1,92 +1,102 @@
-ghost use Rattle.std.specs.Prelude.{◌≡◌, ℕ, ◌+◌, ◌-◌, ◌<◌, ◌≤◌, T, [], ◌∷◌, ◌++◌, length, take};
+ghost use Rattle.std.specs.Prelude.{◌≡◌, ℕ, ◌+◌, ◌-◌, ◌<◌, ◌≤◌, T, [], ◌∷◌, ◌++◌, length, MatchResult};
 ghost use Rattle.base.specs.Bits.{Has};
+ghost use Rattle.base.specs.Checks.{FirstOf};
 ghost use Rattle.base.specs.Words.{Iff};
-ghost use Rattle.engine.specs.Pages.{change, withdrawn, relabelled, Standing, records_of};
+ghost use Rattle.engine.specs.Pages.{change, withdrawn, relabelled, NoPage, Standing, records_of};
+ghost use Rattle.engine.specs.declared.call.SheetFault.TheVariants.{NoSuchAxiom, WithdrawnAlready};
 
+use crate::call::SheetFault;
 use crate::page::Page;
+use arrayvec::ArrayVec;
 use logics::Record;
+use std::marker::Model;
 
-// The axioms that were entered: the first `count` of 64 pages.
-#[derive(Clone, Copy)]
+// The axioms that were entered, in order: a table of 64 pages.
+#[derive(Drop)]
 pub struct AxiomTable {
-    pub(crate) pages: [Page; 64],
-    pub(crate) count: usize,
-    ghost few: { count ≤ 64 },
-    ghost long: { length pages ≡ 64 },
+    pages: ArrayVec<Page, 64>,
 }
 
-const NO_RECORD: Record = Record {
-    form: 0,
-    a: 0,
-    b: 0,
-    c: 0,
-};
+impl Model for AxiomTable {
+    ghost use Rattle.std.specs.Prelude.{List};
+    ghost use Rattle.engine.specs.declared.page.Page.{Page as AnyPage};
 
-const NO_PAGE: Page = Page {
-    entry: NO_RECORD,
-    label: 0,
-    stands: false,
-};
+    ghost Value = { List AnyPage };
+
+    ghost view = { λ t. t.pages.items };
+}
 
 impl AxiomTable {
     pub(crate) fn new() -> AxiomTable
-        ensures { take result.count result.pages ≡ [] }
+        ensures { result ≡ [] }
     {
         AxiomTable {
-            pages: [NO_PAGE; 64],
-            count: 0,
+            pages: ArrayVec::new(),
         }
+    }
+
+    // How many axioms were entered.
+    pub(crate) fn len(&self) -> usize
+        ensures is { result ≡ length self.now }
+        ensures few { result ≤ 64 }
+    {
+        self.pages.len()
+    }
+
+    // The pages, in order.
+    pub(crate) fn pages(&self) -> &[Page]
+        ensures is { result.now ≡ self.now }
+        ensures few { length result.now ≤ 64 }
+    {
+        self.pages.as_slice()
     }
 
     // One page more.
     pub(crate) fn enter(&mut self, page: Page)
-        requires { self.old.count < 64 }
-        ensures pages { take self.new.count self.new.pages ≡ take self.old.count self.old.pages ++ (page ∷ []) }
-        ensures count { self.new.count ≡ self.old.count + 1 }
+        requires { length self.old < 64 }
+        ensures { self.new ≡ self.old ++ (page ∷ []) }
     {
-        let count = self.count;
-        self.pages[count] = page;
-        self.count = count + 1;
+        self.pages.push(page);
     }
 
-    // Is the axiom in force?
-    pub(crate) fn stands(&self, number: usize) -> bool
-        requires { (0 < number) × (number ≤ self.now.count) }
-        ensures { Iff (T result) (Standing (take self.now.count self.now.pages) (number - 1)) }
+    // The place of an axiom in force.
+    pub(crate) fn standing(&self, number: u32) -> Result<usize, SheetFault>
+        ensures { MatchResult result (λ place. (number ≡ place + 1) × Standing self.now place) (FirstOf ((NoSuchAxiom, NoPage self.now number) ∷ (WithdrawnAlready, (Standing self.now (number - 1) → ⊥)) ∷ [])) }
     {
-        let page = self.pages[number - 1];
-        page.stands
+        let number = number as usize;
+        if number == 0 || number > self.len() {
+            return Err(SheetFault::NoSuchAxiom);
+        }
+        let place = number - 1;
+        if self.pages()[place].stands {
+            Ok(place)
+        } else {
+            Err(SheetFault::WithdrawnAlready)
+        }
     }
 
     // The axiom goes out of force.
-    pub(crate) fn withdraw(&mut self, number: usize)
-        requires { (0 < number) × (number ≤ self.old.count) }
-        ensures pages { take self.new.count self.new.pages ≡ change number withdrawn (take self.old.count self.old.pages) }
-        ensures count { self.new.count ≡ self.old.count }
+    pub(crate) fn withdraw(&mut self, place: usize)
+        requires { place < length self.old }
+        ensures { self.new ≡ change (place + 1) withdrawn self.old }
     {
-        let mut page = self.pages[number - 1];
-        page.stands = false;
-        self.pages[number - 1] = page;
+        self.pages.as_mut_slice()[place].stands = false;
     }
 
     // The axiom has another label, and no other axiom has.
-    pub(crate) fn relabel(&mut self, number: usize, label: u32)
-        requires { (0 < number) × (number ≤ self.old.count) }
-        ensures pages { take self.new.count self.new.pages ≡ change number (relabelled label) (take self.old.count self.old.pages) }
-        ensures count { self.new.count ≡ self.old.count }
+    pub(crate) fn relabel(&mut self, place: usize, label: u32)
+        requires { place < length self.old }
+        ensures { self.new ≡ change (place + 1) (relabelled label) self.old }
     {
-        let mut page = self.pages[number - 1];
-        page.label = label;
-        self.pages[number - 1] = page;
+        self.pages.as_mut_slice()[place].label = label;
     }
 
     // The set of the axioms in force.
     pub(crate) fn in_force(&self) -> u64
-        ensures { (i : ℕ) → Iff (Has result i) (Standing (take self.now.count self.now.pages) i) }
+        ensures { (i : ℕ) → Iff (Has result i) (Standing self.now i) }
     {
         let mut set = 0;
-        for i in 0..self.count {
-            let page = self.pages[i];
+        for (i, page) in self.pages().iter().enumerate() {
             if page.stands {
                 set |= 1 << i;
             }
@@ -95,13 +105,12 @@ impl AxiomTable {
     }
 
     // The records of the axioms, in order.
-    pub(crate) fn records(&self) -> [Record; 64]
-        ensures { take self.now.count result ≡ records_of (take self.now.count self.now.pages) }
+    pub(crate) fn records(&self) -> ArrayVec<Record, 64>
+        ensures { result.items ≡ records_of self.now }
     {
-        let mut records = [NO_RECORD; 64];
-        for i in 0..self.count {
-            let page = self.pages[i];
-            records[i] = page.entry;
+        let mut records = ArrayVec::new();
+        for page in self.pages() {
+            records.push(page.entry);
         }
         records
     }

@@ -17,7 +17,7 @@ pub use el::El;
 pub use links::Links;
 
 /// An axiom: its form, and three numbers that the form reads.
-#[derive(Clone, Copy)]
+#[derive(Clone, Copy, PartialEq, Eq, Debug, Default)]
 pub struct Record {
     pub form: u16,
     pub a: u16,

@@ -1,35 +1,57 @@
-use Rattle.std.proofs.Common.{◌≡◌, ◌≤◌, List, length, take, refl, ap, inl, inr, arith, length-take-le}
-use native.Mathlib.Nat.{sub-zero}
-use native.Mathlib.Decide.{dec_lt}
+use Rattle.std.proofs.Common.{◌≡◌, ℕ, ◌+◌, ◌<◌, ◌≤◌, List, length, take, sym, refl, ◌∙◌, subst, ap, inl, inr, arith, length-take-le}
+use Rattle.ordered.specs.Lists.{Gap, opened}
+use Rattle.ordered.proofs.Places.{length_opened}
 use Rattle.engine.specs.declared.page.Row.{Row}
-use Rattle.engine.proofs.Rowing.{level_there, gap_goal, row_put}
+use Rattle.engine.specs.Rows.{ByGoal, NoRow, OneMore}
+use Rattle.engine.proofs.Rowing.{level_there, gap_goal, room_left, row_put}
 use Rattle.engine.proofs.rows.RowTable.put.Goals as goal
 
-pub returns-in-Ok : goal.returns-in-Ok
-returns-in-Ok c =
-    let found = simp sub-zero at c.in-Ok.ensures.found in
-    record { held = λ up _. inl (level_there _ c.args.row _ found.0 found.1, refl); full = λ up no. absurd (no tt) }
+pub returns-in_default : goal.returns-in_default
+returns-in_default c =
+    let (within, level) = c.in_default.ensures.found in
+    inl (rw (sym c.rows.ensures.is) (level_there c.rows.result.now c.args.row c.in_default.field-0 within level), refl)
 
-pub returns-then-insert : goal.returns-then-insert
-returns-then-insert c =
-    let self = c.args.self.now in
-    let (room, used) = c.if-insert.ensures.room.0 tt in
-    let gap = simp sub-zero at c.in-Err.ensures.gap in
-    record {
-      held = λ up _. inr (row_put self.rows _ self.count c.in-Err.place c.args.row room used up (gap up) (c.if-insert.ensures.put tt));
-      full = λ up no. absurd (no tt);
-    }
+module _ (c : goal.After-self-1) where
+  abbrev rows : List Row
+  rows = c.self.inside.rows
 
-pub returns-else-insert : goal.returns-else-insert
-returns-else-insert c =
-    let self = c.args.self.now in
-    let long = self.long in
-    let within : c.in-Err.place ≤ length (take self.count self.rows) = simp sub-zero at c.in-Err.ensures.found in
-    let gap = simp sub-zero at c.in-Err.ensures.gap in
-    let used : length (take self.count self.rows) ≡ self.count = length-take-le self.count self.rows (omega arith) in
-    let filled : 64 ≤ self.count =
-    elim (dec_lt self.count (length self.rows)) [ yes lt ↦ absurd (c.if-insert.ensures.room.1 (lt, omega arith)) | no ge ↦ omega arith ] in
-    record {
-      held = λ up yes. absurd yes;
-      full = λ up no. (ap (λ (rows : List Row). take self.count rows) (c.if-insert.ensures.kept (λ h. h)), omega arith, gap_goal _ c.args.row _ within (gap up));
-    }
+  abbrev count : ℕ
+  count = c.self.inside.count
+
+  read : c.rows.result.now ≡ take count rows
+  read = c.rows.ensures.is ∙ sym c.self.view_is
+
+  within : c.in-Err.place ≤ length (take count rows)
+  within = subst (λ (rs : List Row). c.in-Err.place ≤ length rs) read c.in-Err.ensures.found
+
+  gap : Gap ByGoal (take count rows) c.args.row c.in-Err.place
+  gap = subst (λ (rs : List Row). Gap ByGoal rs c.args.row c.in-Err.place) read (c.in-Err.ensures.gap (rw c.rows.ensures.is c.rows.ensures.ascending))
+
+  none : NoRow c.args.self.now c.args.row.goal
+  none = subst (λ (rs : List Row). NoRow rs c.args.row.goal) c.self.view_is (gap_goal (take count rows) c.args.row c.in-Err.place within gap)
+
+  few : count < 64
+  few = room_left rows c.args.self.now count c.args.row.goal c.self.view_is c.self.invariant.long c.requires none
+
+  used : c.in-Err.place ≤ count
+  used = omega (arith, within, length-take-le count rows (omega (arith, few, c.self.invariant.long)))
+
+  less : count < length rows
+  less = omega (arith, few, c.self.invariant.long)
+
+  put : c.insert.new.list ≡ opened rows count c.in-Err.place c.args.row
+  put = c.insert.ensures.put (c.insert.ensures.room.1 (less, used))
+
+  more : OneMore (take count rows) c.args.row (take (count + 1) c.insert.new.list)
+  more =
+      subst (λ (rs : List Row). OneMore (take count rows) c.args.row (take (count + 1) rs)) (sym put)
+      (row_put rows count c.in-Err.place c.args.row less used c.self.invariant.ascending gap)
+
+  long : length c.insert.new.list ≡ 64
+  long = ap length put ∙ length_opened rows count c.in-Err.place c.args.row less used ∙ c.self.invariant.long
+
+pub invariant_of-self : goal.invariant_of-self
+invariant_of-self c = let less = few c in record { few = omega arith; long = long c; ascending = (more c).ascending }
+
+pub returns-in-Err : goal.returns-in-Err
+returns-in-Err c = inr (none c, subst (λ (rs : List Row). OneMore rs c.args.row (take (count c + 1) c.insert.new.list)) c.self.view_is (more c))

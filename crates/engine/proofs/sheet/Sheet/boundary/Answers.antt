@@ -1,21 +1,5 @@
-use Rattle.engine.proofs.Reading.{boundary_goal, boundary_none, boundary_there}
+use Rattle.engine.proofs.Reading.{boundary_found}
 use Rattle.engine.proofs.sheet.Sheet.boundary.Goals as goal
 
-pub returns-then-not-takes_goal : goal.returns-then-not-takes_goal
-returns-then-not-takes_goal g c =
-    let s = c.args.self.now in
-    record { law = boundary_goal _ _ s.axioms s.rows c.args.goal c.if-not-takes_goal.ensures.1 }
-
-pub returns-in_default : goal.returns-in_default
-returns-in_default g c =
-    let s = c.args.self.now in
-    record {
-      law = boundary_none _ _ s.axioms s.rows c.args.goal (c.if-not-takes_goal.ensures.0 tt) c.in_default.ensures;
-    }
-
 pub returns : goal.returns
-returns g c =
-    let s = c.args.self.now in
-    record {
-      law = boundary_there _ _ s.axioms s.rows c.args.goal (c.if-not-takes_goal.ensures.0 tt) _ c.in-Some.ensures;
-    }
+returns g c = rw c.ok_or.ensures.value (boundary_found _ _ c.args.self.now c.args.goal c.in_ok-take_goal.ensures c.lookup.result c.lookup.ensures)

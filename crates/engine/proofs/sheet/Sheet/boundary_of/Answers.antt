@@ -1,12 +1,13 @@
-use Rattle.std.proofs.Common.{ℕ, List, subst, take_all}
-use Rattle.engine.proofs.Boundaries.{JoinUpTo, join_all, join_widened}
+use Rattle.std.proofs.Common.{rules, List, ℕ, subst, take_all}
+use Rattle.engine.proofs.Boundaries.{JoinUpTo, Widened, join_all, join_widened}
 use Rattle.engine.proofs.sheet.Sheet.boundary_of.Goals as goal
 
 pub loop-support-preserved : goal.loop-support-preserved
 loop-support-preserved g c = λ b keeps.
-    let s = c.args.self.now in
-    join_widened (g.K.LabelKind.meaning s.kind) (g.met.K.LabelKind.lawful s.kind) b c.args.supports.now c.loop-support.support-index _ c.loop-support-test.true
-    (c.meet_of-meet.ensures b keeps) _ _ (c.loop-support.invariant b keeps) c.widen-bound.ensures
+    let k = g.K.LabelKind.meaning c.args.self.now.kind in
+    let widened : Widened k c.loop-support.bound c.meet_of-meet.result c.map_or.result = search rules in
+    join_widened k (g.met.K.LabelKind.lawful c.args.self.now.kind) b c.args.supports.now c.loop-support.support-index _ c.loop-support-test.true
+    (c.meet_of-meet.ensures b keeps) c.loop-support.bound c.map_or.result (c.loop-support.invariant b keeps) widened
 
 pub returns : goal.returns
 returns g c = λ b keeps goal all.

@@ -1,11 +1,10 @@
 use Rattle.std.proofs.Common.{take}
 use Rattle.engine.specs.Book.{Book}
-use Rattle.engine.specs.Keeps.{Keeps}
-use Rattle.engine.specs.Obeys.{held, shown}
+use Rattle.engine.specs.Obeys.{Holds}
 use Rattle.engine.proofs.Boundaries.{JoinUpTo}
 use Rattle.engine.proofs.sheet.Sheet.boundary_of.Given as goal
 
 abbrev pub invariant-loop-support : goal.invariant-loop-support
 invariant-loop-support g l =
-    (b : Book) → Keeps (g.K.LabelKind.meaning l.self.kind) (g.L.Logic.meaning l.self.logic) b (held l.self.axioms) (shown l.self.rows)
+    (b : Book) → Holds g.K.LabelKind.meaning g.L.Logic.meaning l.self b
     → JoinUpTo (g.K.LabelKind.meaning l.self.kind) b (take l.support-index l.supports) l.bound

@@ -1,37 +1,17 @@
-use Rattle.std.proofs.Common.{refl, inl, inr, arith}
-use Rattle.engine.proofs.Changing.{relabel_none, relabel_already, relabel_done, relabel_label}
+use Rattle.std.proofs.Common.{refl}
+use Rattle.std.proofs.lemmas.Result.{err_from_is_err_and}
+use Rattle.engine.proofs.Changing.{relabel_refused, relabel_label, relabel_done}
 use Rattle.engine.proofs.sheet.Sheet.relabel.Goals as goal
-use Rattle.engine.proofs.sheet.Sheet.relabel.Goals.{then-n-eq0-via-then-n-eq0, then-n-eq0-via-else-n-eq0+then-n-self}
 
-pub returns-then-n-eq0 : goal.returns-then-n-eq0
-returns-then-n-eq0 g c =
-    let s = c.args.self.now in
-    record {
-      law = relabel_none _ _ s.axioms s.rows c.args.number c.args.label
-          (elim c.then-n-eq0.branch [ then-n-eq0-via-then-n-eq0 w ↦ inl w.if-n-eq0.true | then-n-eq0-via-else-n-eq0+then-n-self w ↦ inr w.if-n-self.true ]);
-      kind = refl;
-      logic = refl;
-    }
+pub returns-in_err-place : goal.returns-in_err-place
+returns-in_err-place g c = let p = err_from_is_err_and c.from_residual.result c.from_residual.ensures.1 in rw (p.1, p.2) (relabel_refused _ _ c.args.self.now c.args.number c.args.label _ c.in_err-place.ensures)
 
-pub returns-then-not-stands : goal.returns-then-not-stands
-returns-then-not-stands g c =
-    let s = c.args.self.now in
-    record { law = relabel_already _ _ s.axioms s.rows c.args.number (omega arith) c.if-n-self.false c.args.label c.if-not-stands.ensures.1; kind = refl; logic = refl }
-
-pub returns-then-label-size : goal.returns-then-label-size
-returns-then-label-size g c =
-    let s = c.args.self.now in
-    record {
-      law = relabel_label _ _ s.axioms s.rows c.args.number (omega arith) c.if-n-self.false (c.if-not-stands.ensures.0 tt) c.args.label (λ label. omega (arith, label, c.size.ensures, c.if-label-size.true));
-      kind = refl;
-      logic = refl;
-    }
+pub returns-in_err-check_label : goal.returns-in_err-check_label
+returns-in_err-check_label g c =
+    let p = err_from_is_err_and c.from_residual-in_err-check_label.result c.from_residual-in_err-check_label.ensures.1 in
+    rw (p.1, p.2, c.in_err-check_label.ensures.1)
+    (relabel_label _ _ c.args.self.now c.args.number c.in_ok-place.place c.in_ok-place.ensures.0 c.in_ok-place.ensures.1 c.args.label c.in_err-check_label.ensures.0)
 
 pub returns : goal.returns
 returns g c =
-    let s = c.args.self.now in
-    record {
-      law = relabel_done _ _ s.axioms s.rows c.args.number (omega arith) c.if-n-self.false (c.if-not-stands.ensures.0 tt) c.args.label (omega (arith, c.size.ensures, c.if-label-size.false)) c.relabel.new.self c.clear.new.self c.relabel.ensures.pages c.clear.ensures;
-      kind = refl;
-      logic = refl;
-    }
+    relabel_done _ _ c.args.self.now c.args.number c.in_ok-place.place c.in_ok-place.ensures.0 c.in_ok-place.ensures.1 _ refl refl c.clear.ensures c.args.label c.in_ok-check_label.ensures c.relabel.ensures

@@ -1,34 +1,27 @@
-use Rattle.std.proofs.Common.{ℕ, ◌-◌, length, take, ap, ◌∙◌}
-use native.Mathlib.Nat.{sub-zero}
-use Rattle.engine.specs.Obeys.{held, shown}
-use Rattle.engine.proofs.Supporting.{found_within}
-use Rattle.engine.proofs.Searching.{search_askable, found_all, found_more}
+use Rattle.std.proofs.Common.{◌∙◌, ◌≤◌, length, arith}
+use Rattle.engine.proofs.Searching.{search_askable, found_by, found_leaves}
 use Rattle.engine.proofs.sheet.Sheet.search.Goals as goal
 
-pub returns-in-Some : goal.returns-in-Some
-returns-in-Some g c =
+pub returns-clause-found : goal.returns-clause-found
+returns-clause-found g c = λ b keeps.
     let s = c.args.self.now in
-    let records = take (s.axioms.count - 0) c.records-records.result in
-    let same = ap (λ (n : ℕ). take n c.records-records.result) (sub-zero s.axioms.count) ∙ c.records-records.ensures in
-    record {
-      found = λ b keeps.
-          found_all _ _ b (held s.axioms) (shown s.rows) keeps records same _ c.in_force-all.ensures c.args.goal c.args.places.now c.args.area.now c.in-Some.n _ _
-          (c.in-Some.ensures.found
-          (search_askable _ _ b (held s.axioms) (shown s.rows) keeps records same _ c.in_force-all.ensures c.args.goal _ c.requires.taken c.requires.wide));
-      within =
-          found_within (g.K.LabelKind.meaning s.kind) (g.L.Logic.meaning s.logic) records c.in_force-all.result c.args.goal (length c.args.area.now) c.args.places.now c.args.area.now c.in-Some.n _ _
-          c.find_supports.auto.places c.in-Some.ensures.found (λ never. (c.in-Some.ensures.declined never).0);
-    }
+    let k = g.K.LabelKind.meaning s.kind in
+    let l = g.L.Logic.meaning s.logic in
+    let same = c.as_slice.ensures.value ∙ c.records-records.ensures in
+    let wide : l.bytes ≤ length c.args.area.now = omega (arith, c.work_bytes.ensures, c.if-area-work_bytes.false) in
+    let ask = search_askable k l b s.axioms s.rows keeps c.as_slice.result.now same c.in_force-all.result c.in_force-all.ensures c.args.goal (length c.args.area.now) c.requires wide in
+    rw c.ok_or.ensures.value
+    (found_by k l b s.axioms s.rows keeps c.as_slice.result.now same c.in_force-all.result c.in_force-all.ensures c.args.goal
+    c.args.places.now c.args.area.now c.find_supports.result c.find_supports.new.places c.find_supports.new.area wide c.find_supports.auto.places (c.find_supports.ensures.found ask))
 
-pub returns-in-None : goal.returns-in-None
-returns-in-None g c =
+pub returns-clause-leaves : goal.returns-clause-leaves
+returns-clause-leaves g c = λ b keeps.
     let s = c.args.self.now in
-    let records = take (s.axioms.count - 0) c.records-records.result in
-    let same = ap (λ (n : ℕ). take n c.records-records.result) (sub-zero s.axioms.count) ∙ c.records-records.ensures in
-    record {
-      found = λ b keeps.
-          found_more _ _ b (held s.axioms) (shown s.rows) keeps records same _ c.in_force-all.ensures c.args.goal c.args.places.now c.args.area.now _ _
-          (c.in-None.ensures.found
-          (search_askable _ _ b (held s.axioms) (shown s.rows) keeps records same _ c.in_force-all.ensures c.args.goal _ c.requires.taken c.requires.wide));
-      within = tt;
-    }
+    let k = g.K.LabelKind.meaning s.kind in
+    let l = g.L.Logic.meaning s.logic in
+    let same = c.as_slice.ensures.value ∙ c.records-records.ensures in
+    let wide : l.bytes ≤ length c.args.area.now = omega (arith, c.work_bytes.ensures, c.if-area-work_bytes.false) in
+    let ask = search_askable k l b s.axioms s.rows keeps c.as_slice.result.now same c.in_force-all.result c.in_force-all.ensures c.args.goal (length c.args.area.now) c.requires wide in
+    rw c.ok_or.ensures.value
+    (found_leaves k l b s.axioms s.rows keeps c.as_slice.result.now same c.in_force-all.result c.in_force-all.ensures c.args.goal
+    c.args.places.now c.args.area.now c.find_supports.result c.find_supports.new.places c.find_supports.new.area (c.find_supports.ensures.found ask))

@@ -1,55 +1,30 @@
-use Rattle.std.proofs.Common.{false, arith}
-use Rattle.engine.proofs.Reading.{see_goal, see_label, see_user, see_none, see_there}
+use Rattle.std.proofs.Common.{false, sym, ◌∙◌}
+use Rattle.std.proofs.lemmas.Result.{err_from_is_err_and}
+use Rattle.engine.proofs.Reading.{see_user, see_unknown, see_found}
 use Rattle.engine.proofs.sheet.Sheet.see.Goals as goal
 
-pub returns-then-not-takes_goal : goal.returns-then-not-takes_goal
-returns-then-not-takes_goal g c =
-    let s = c.args.self.now in
-    record { law = see_goal _ _ s.axioms s.rows c.args.goal c.args.user c.if-not-takes_goal.ensures.1 }
+pub returns-in_err-check_user : goal.returns-in_err-check_user
+returns-in_err-check_user g c =
+    let p = err_from_is_err_and c.from_residual-in_err-check_user.result c.from_residual-in_err-check_user.ensures.1 in
+    rw (p.1, p.2) (see_user _ _ c.args.self.now c.args.goal c.in_ok-take_goal.ensures c.args.user c.in_err-check_user.field-0.0 c.in_err-check_user.ensures)
 
-pub returns-then-user-size : goal.returns-then-user-size
-returns-then-user-size g c =
-    let s = c.args.self.now in
-    record {
-      law =
-          see_label _ _ s.axioms s.rows c.args.goal (c.if-not-takes_goal.ensures.0 tt) c.args.user
-          (λ label. omega (arith, label, c.size.ensures, c.if-user-size.true));
-    }
-
-pub returns-then-not-admits : goal.returns-then-not-admits
-returns-then-not-admits g c =
-    let s = c.args.self.now in
-    record {
-      law =
-          see_user _ _ s.axioms s.rows c.args.goal (c.if-not-takes_goal.ensures.0 tt) c.args.user
-          (omega (arith, c.size.ensures, c.if-user-size.false)) c.if-not-admits.ensures.1;
-    }
-
-pub returns-in_default : goal.returns-in_default
-returns-in_default g c =
-    let s = c.args.self.now in
-    record {
-      law =
-          see_none _ _ s.axioms s.rows c.args.goal (c.if-not-takes_goal.ensures.0 tt) c.args.user
-          (omega (arith, c.size.ensures, c.if-user-size.false)) (c.if-not-admits.ensures.0 tt) c.in_default.ensures;
-    }
+pub returns-in_err-boundary : goal.returns-in_err-boundary
+returns-in_err-boundary g c =
+    let p = err_from_is_err_and c.from_residual-in_err-boundary.result c.from_residual-in_err-boundary.ensures.1 in
+    rw (p.1, p.2)
+    (see_unknown _ _ c.args.self.now c.args.goal c.in_ok-take_goal.ensures c.args.user c.in_ok-check_user.ensures.known c.in_ok-check_user.ensures
+    c.lookup.result c.lookup.ensures c.in_err-boundary.field-0.0 (sym c.in_err-boundary.was ∙ c.ok_or.ensures.value))
 
 pub returns-in-None : goal.returns-in-None
 returns-in-None g c =
     let s = c.args.self.now in
-    record {
-      law =
-          see_there _ _ s.axioms s.rows c.args.goal (c.if-not-takes_goal.ensures.0 tt) c.args.user
-          (omega (arith, c.size.ensures, c.if-user-size.false)) (c.if-not-admits.ensures.0 tt)
-          (g.met.K.LabelKind.lawful s.kind) (g.met.L.Logic.monotone s.logic) c.in-Some.boundary c.in-Some.ensures false (rw c.in-None.is (λ h. h, λ h. h));
-    }
+    see_found _ _ s c.args.goal c.in_ok-take_goal.ensures c.args.user c.in_ok-check_user.ensures.known c.in_ok-check_user.ensures
+    (g.met.K.LabelKind.lawful s.kind) (g.met.L.Logic.monotone s.logic) c.lookup.result c.lookup.ensures c.in_ok-boundary.boundary (sym c.in_ok-boundary.was ∙ c.ok_or.ensures.value)
+    false (rw c.in-None.is (λ h. h, λ h. h))
 
-pub returns-in-Some-boundary : goal.returns-in-Some-boundary
-returns-in-Some-boundary g c =
+pub returns-in-Some : goal.returns-in-Some
+returns-in-Some g c =
     let s = c.args.self.now in
-    record {
-      law =
-          see_there _ _ s.axioms s.rows c.args.goal (c.if-not-takes_goal.ensures.0 tt) c.args.user
-          (omega (arith, c.size.ensures, c.if-user-size.false)) (c.if-not-admits.ensures.0 tt)
-          (g.met.K.LabelKind.lawful s.kind) (g.met.L.Logic.monotone s.logic) c.in-Some.boundary c.in-Some.ensures c.at_or_below.result (rw c.in-Some-boundary.is c.at_or_below.ensures);
-    }
+    see_found _ _ s c.args.goal c.in_ok-take_goal.ensures c.args.user c.in_ok-check_user.ensures.known c.in_ok-check_user.ensures
+    (g.met.K.LabelKind.lawful s.kind) (g.met.L.Logic.monotone s.logic) c.lookup.result c.lookup.ensures c.in_ok-boundary.boundary (sym c.in_ok-boundary.was ∙ c.ok_or.ensures.value)
+    c.at_or_below.result (rw c.in-Some.is c.at_or_below.ensures)

@@ -1,17 +1,11 @@
-use Rattle.std.proofs.Common.{◌≡◌, ℕ, suc, ◌-◌, take, refl, ap, ◌∙◌, arith}
-use Rattle.engine.specs.Pages.{change, withdrawn}
-use Rattle.engine.proofs.Paging.{change_set}
+use Rattle.std.proofs.Common.{◌∙◌, ap, length, length-set}
+use Rattle.engine.specs.Pages.{withdrawn}
+use Rattle.engine.proofs.Paging.{change_at, no_page}
+use Rattle.arrayvec.proofs.ArrayVecLemmas.{items-with_items}
 use Rattle.engine.proofs.table.AxiomTable.withdraw.Goals as goal
 
 pub returns : goal.returns
 returns c =
-    let self = c.args.self.now in
-    let n = c.args.number in
-    let long = self.long in
-    let number : suc (n - 1) ≡ n = omega arith in
-    record {
-      pages =
-          change_set withdrawn (n - 1) self.count self.pages _ (omega arith) (omega arith)
-          ∙ ap (λ (m : ℕ). change m withdrawn (take self.count self.pages)) number;
-      count = refl;
-    }
+    let pages = c.self.inside.pages in
+    items-with_items pages _ (length-set _ c.args.place _ ∙ ap length c.as_mut_slice.ensures.value)
+    ∙ rw (c.as_mut_slice.ensures.value, c.self.view_is) (change_at withdrawn c.args.place c.args.self.now no_page c.requires)
