@@ -1,5 +1,5 @@
 -- The steps of an axiom line and of a user's line.
-use Rattle.std.proofs.Common.{◌≡◌, ℕ, ◌<◌, cond, eqb, ◌⊎◌, List, [], ◌∷◌, ◌++◌, map, length, sym, refl, ap, ◌∙◌, subst, inl, inr, arith}
+use Rattle.std.proofs.Common.{◌≡◌, ℕ, ◌<◌, cond, eqb, ◌⊎◌, List, [], ◌∷◌, ◌++◌, map, length, Ok, Err, sym, refl, ap, ◌∙◌, subst, inl, inr, arith}
 use mathlib.Core.List.{map-append}
 use Rattle.base.specs.Words.{In}
 use Rattle.base.specs.Checks.{FirstOf, NoneOf}
@@ -10,15 +10,15 @@ use Rattle.labels.proofs.Orders.{same_sym}
 use Rattle.logics.specs.Entailment.{Entailment}
 use Rattle.logics.specs.declared.Record.{Record}
 use Rattle.logics.specs.declared.LogicFault.TheVariants.{RecordNotTaken}
-use Rattle.engine.specs.Book.{Book, after}
+use Rattle.engine.specs.Book.{Book}
 use Rattle.engine.specs.Law.{checks, RefusedBy, Accepted}
-use Rattle.engine.specs.Keeps.{Keeps}
-use Rattle.engine.specs.Obeys.{held, shown, Obeys}
+use Rattle.engine.specs.Obeys.{Holds, Obeys}
 use Rattle.engine.specs.declared.sheet.Sheet.{Sheet as SheetOf}
 use Rattle.engine.specs.declared.call.SheetFault.{SheetFault}
 use Rattle.engine.specs.declared.call.SheetFault.TheVariants.{Logic as OfLogic}
+use Rattle.engine.specs.declared.call.Call.{Call}
 use Rattle.engine.specs.declared.call.Call.TheVariants.{Enter}
-use Rattle.engine.specs.declared.call.Answer.TheVariants.{Entered, Refused}
+use Rattle.engine.specs.declared.call.Answer.TheVariants.{Entered}
 use Rattle.lines.specs.declared.form.Form.{Form}
 use Rattle.lines.specs.declared.form.Form.TheVariants.{Axiom, User}
 use Rattle.lines.specs.declared.form.AxiomForm.{AxiomForm}
@@ -36,7 +36,7 @@ use Rattle.report.specs.Stands.{Keeping}
 use Rattle.report.proofs.Standing.{lines_of_append, users_of_same}
 use Rattle.report.proofs.Sames.{label_same, prime_same}
 use Rattle.ordered.proofs.Lists.{in_append}
-use Rattle.report.proofs.Stepping.{first_by, none_by, book_by, late_by, first_of_sheet, none_of_sheet, logic_is, taken_small, refused_first, accepted_none, next_after, enter_first, enter_none, keeping_more}
+use Rattle.report.proofs.Stepping.{first_by, none_by, book_by, late_by, first_in, none_in, logic_is, taken_small, next_after, enter_first, enter_none, keeping_more}
 
 module _ {p w : ℕ} {before : List Line} {desk : Desk} (keeping : Keeping p w before desk) where
   -- the desk's kind and logic, and the book
@@ -54,6 +54,10 @@ module _ {p w : ℕ} {before : List Line} {desk : Desk} (keeping : Keeping p w b
 
   module _ (x : Line) (behind : List ℕ) where
     module _ {f : AxiomForm} (is : x.form ≡ Axiom f) where
+      -- the call that the line stands for
+      abbrev call : Call
+      call = Enter (entry f x) (at x 0)
+
       -- a number that no record has
       pub enter_beyond : length b.pages < 64 → ((65535 < at x 1) ⊎ ((65535 < at x 2) ⊎ (65535 < at x 3))) → FirstOf (line_checks p w before x behind) (Sheet (OfLogic RecordNotTaken))
       enter_beyond room beyond =
@@ -62,24 +66,20 @@ module _ {p w : ℕ} {before : List Line} {desk : Desk} (keeping : Keeping p w b
           elim beyond [ inl a ↦ omega arith | inr (inl b) ↦ omega arith | inr (inr c) ↦ omega arith ] in
           first_by p w before x behind is _ (inr ((λ full. omega arith), inl (never, refl)))
 
-      pub enter_refused : (t : SheetOf AnyKind AnyLogic) {fault : SheetFault} → Obeys k l (Enter (entry f x) (at x 0)) (Refused fault) desk.sheet.axioms desk.sheet.rows t.axioms t.rows → FirstOf (line_checks p w before x behind) (Sheet fault)
-      enter_refused t {fault} obeys =
-          let (law, _) = obeys b keeping.book in
-          let first : RefusedBy k l b (Enter (entry f x) (at x 0)) fault = refused_first k l b (Enter (entry f x) (at x 0)) fault (λ e. cc) law in
-          first_by p w before x behind is _ (first_of_sheet (kind_of before) (logic_of before) b (Enter (entry f x) (at x 0)) fault
-          (subst (λ (h : Entailment). RefusedBy (kind_of before) h b (Enter (entry f x) (at x 0)) fault) (logic_is keeping) (enter_first k (kind_of before) keeping.kind l b (entry f x) (at x 0) fault first)))
+      pub enter_refused : {fault : SheetFault} {t : SheetOf AnyKind AnyLogic} → Obeys any_kind any_logic call (Err fault) desk.sheet t → FirstOf (line_checks p w before x behind) (Sheet fault)
+      enter_refused {fault} obeys =
+          let (first, _) = obeys.law b keeping.book in
+          first_by p w before x behind is _ (first_in (checks (kind_of before) (logic_of before) b call) fault
+          (subst (λ (h : Entailment). RefusedBy (kind_of before) h b call fault) (logic_is keeping) (enter_first k (kind_of before) keeping.kind l b (entry f x) (at x 0) fault first)))
 
-      pub enter_accepted : (t : SheetOf AnyKind AnyLogic) {n : ℕ} → t.kind ≡ desk.sheet.kind → t.logic ≡ desk.sheet.logic → Obeys k l (Enter (entry f x) (at x 0)) (Entered n) desk.sheet.axioms desk.sheet.rows t.axioms t.rows
-          → NoneOf (line_checks p w before x behind) × Keeping p w (before ++ (x ∷ [])) (record desk { sheet = t })
-      enter_accepted t {n} ke le obeys =
-          let (law, (d, next, keeps)) = obeys b keeping.book in
-          let (none, _) = accepted_none k l b (Enter (entry f x) (at x 0)) (Entered n) (λ fault e. cc) law in
-          let book : d ≡ book_of p w (before ++ (x ∷ [])) = next_after k l b (Enter (entry f x) (at x 0)) d none next ∙ sym (book_by p w before x behind is) in
+      pub enter_accepted : {n : ℕ} {t : SheetOf AnyKind AnyLogic} → Obeys any_kind any_logic call (Ok (Entered n)) desk.sheet t → NoneOf (line_checks p w before x behind) × Keeping p w (before ++ (x ∷ [])) (record desk { sheet = t })
+      enter_accepted {n} {t} obeys =
+          let ((none, _), (d, next, holds)) = obeys.law b keeping.book in
+          let book : d ≡ book_of p w (before ++ (x ∷ [])) = next_after k l b call d none next ∙ sym (book_by p w before x behind is) in
           let users : users_of (before ++ (x ∷ [])) ≡ users_of before = users_of_same before x (λ e. let three : section x.form ≡ 3 = ap section is in omega arith) in (
-            none_by p w before x behind is (none_of_sheet (kind_of before) (logic_of before) b (Enter (entry f x) (at x 0))
-                (subst (λ (h : Entailment). Accepted (kind_of before) h b (Enter (entry f x) (at x 0))) (logic_is keeping) (enter_none k (kind_of before) keeping.kind l b (entry f x) (at x 0) none))),
-            keeping_more keeping x (late_by p w before x behind is (omega arith)) (record desk { sheet = t }) ke le (subst (λ (e : Book). Keeps k l e (held t.axioms) (shown t.rows)) book keeps)
-                (keeping.users ∙ sym users) (λ u i. keeping.admitted u (subst (In u) users i)),
+            none_by p w before x behind is
+                (none_in (checks (kind_of before) (logic_of before) b call) (subst (λ (h : Entailment). Accepted (kind_of before) h b call) (logic_is keeping) (enter_none k (kind_of before) keeping.kind l b (entry f x) (at x 0) none))),
+            keeping_more keeping x (late_by p w before x behind is (omega arith)) (record desk { sheet = t }) obeys.kind obeys.logic (subst (Holds any_kind any_logic t) book holds) (keeping.users ∙ sym users) (λ u i. keeping.admitted u (subst (In u) users i)),
           )
 
     module _ (is : x.form ≡ User) where
@@ -101,7 +101,7 @@ module _ {p w : ℕ} {before : List Line} {desk : Desk} (keeping : Keeping p w b
       user_accepted prime {desk'} same added = (
         none_by p w before x behind is ((λ no. no (label_same k (kind_of before) keeping.kind (at x 0) prime.known)), ((λ no. no (prime_same k (kind_of before) keeping.kind (at x 0) prime)), tt)),
         keeping_more keeping x (late_by p w before x behind is (omega arith)) desk' (ap (λ (s : SheetOf AnyKind AnyLogic). s.kind) same) (ap (λ (s : SheetOf AnyKind AnyLogic). s.logic) same)
-            (subst (λ (s : SheetOf AnyKind AnyLogic). Keeps k l (book_of p w (before ++ (x ∷ []))) (held s.axioms) (shown s.rows)) (sym same) (subst (λ (e : Book). Keeps k l e (held desk.sheet.axioms) (shown desk.sheet.rows)) (sym (book_by p w before x behind is)) keeping.book))
+            (rw (same, book_by p w before x behind is) keeping.book)
             (added ∙ ap (λ (ls : List ℕ). ls ++ (at x 0 ∷ [])) keeping.users ∙ sym users_more)
             (λ u i. elim ((in_append u (users_of before) (at x 0 ∷ [])).0 (subst (In u) users_more i)) [
               | inl old ↦ keeping.admitted u old

@@ -3,9 +3,6 @@ use Rattle.std.proofs.Common.{◌≡◌, ℕ, ◌+◌, ◌<◌, ◌≤◌, List,
 use Rattle.std.proofs.lemmas.Result.{err_from_is_err_and}
 use Rattle.base.specs.Checks.{FirstOf, NoneOf}
 use Rattle.base.specs.Words.{In}
-use Rattle.engine.specs.Book.{Book, blank}
-use Rattle.engine.specs.Keeps.{Keeps}
-use Rattle.engine.specs.Obeys.{held, shown}
 use Rattle.prints.specs.declared.Print.{Print}
 use Rattle.prints.specs.Output.{Adds}
 use Rattle.prints.proofs.Adding.{adds_both}
@@ -16,13 +13,10 @@ use Rattle.lines.specs.declared.read.Found.{Found}
 use Rattle.lines.specs.Forms.{section, May}
 use Rattle.lines.specs.Lines.{written, last_form}
 use Rattle.lines.specs.Reading.{Next, TextFails}
-use Rattle.report.specs.declared.any.AnyKind.{AnyKind}
-use Rattle.report.specs.declared.any.AnyLogic.{AnyLogic}
 use Rattle.report.specs.declared.desk.Desk.{Desk}
 use Rattle.report.specs.declared.fault.Cause.{Cause}
 use Rattle.report.specs.declared.fault.Cause.TheVariants.{Text}
 use Rattle.report.specs.declared.reader.Reader.{Reader}
-use Rattle.report.specs.Any.{any_kind, any_logic}
 use Rattle.report.specs.Checks.{user_count, line_checks, Good, Fails, text, check, Refuses}
 use Rattle.report.specs.Report.{PrintOf}
 use Rattle.report.specs.Stands.{Gets, Stops, Stands, Advanced, Late, Keeping, LinePrinted, Along}

@@ -13,14 +13,14 @@ use Rattle.labels.proofs.Orders.{same_lawful}
 use Rattle.logics.specs.Entailment.{Entailment, Goal}
 use Rattle.engine.specs.Book.{Book, note, after}
 use Rattle.engine.specs.Law.{checks, RefusedBy, Accepted, Buffers, SearchLeaves}
-use Rattle.engine.specs.Keeps.{Keeps}
-use Rattle.engine.specs.Obeys.{held, shown, Obeys}
+use Rattle.engine.specs.Obeys.{Holds, Obeys}
 use Rattle.engine.specs.Sight.{AllSupports, IsBoundary}
 use Rattle.engine.proofs.Unique.{determined}
 use Rattle.engine.specs.declared.sheet.Sheet.{Sheet as SheetOf}
 use Rattle.engine.specs.declared.call.SheetFault.{SheetFault}
+use Rattle.engine.specs.declared.call.Call.{Call}
 use Rattle.engine.specs.declared.call.Call.TheVariants.{Publish}
-use Rattle.engine.specs.declared.call.Answer.TheVariants.{Count, Refused}
+use Rattle.engine.specs.declared.call.Answer.TheVariants.{Count}
 use Rattle.lines.specs.declared.form.Form.{Form}
 use Rattle.lines.specs.declared.form.Form.TheVariants.{Goal as GoalLine}
 use Rattle.lines.specs.declared.form.Line.{Line}
@@ -38,7 +38,7 @@ use Rattle.report.specs.Report.{GoalPrints, LinePrints}
 use Rattle.report.specs.Stands.{Keeping, Shows, Sighted, Steps, LinePrinted}
 use Rattle.report.specs.AnyLawful.{any_lawful}
 use Rattle.report.proofs.Standing.{logic_of_same, users_of_same}
-use Rattle.report.proofs.Stepping.{first_by, none_by, book_by, late_by, first_of_sheet, none_of_sheet, logic_is, refused_first, accepted_none, next_after, keeping_more}
+use Rattle.report.proofs.Stepping.{first_by, none_by, book_by, late_by, first_in, none_in, logic_is, next_after, keeping_more}
 
 -- a goal that is noted is among those noted
 noted : (g : Goal) (gs : List Goal) → In g (note g gs)
@@ -64,7 +64,7 @@ pub record PublishDone (p w : ℕ) (before : List Line) (desk : Desk) (x : Line)
   pub keeping : Keeping p w (before ++ (x ∷ [])) desk'
   pub shows : Shows p w (before ++ (x ∷ [])) (two x)
   pub lawful : Lawful (kind_of (before ++ (x ∷ [])))
-  pub supports : (d e : Buffers) → SearchLeaves (any_kind desk.sheet.kind) (any_logic desk.sheet.logic) (book_of p w before) (two x) (Count n) d e
+  pub supports : (d e : Buffers) → SearchLeaves (any_kind desk.sheet.kind) (any_logic desk.sheet.logic) (book_of p w before) (two x) (Ok (Count n)) d e
       → AllSupports (logic_of (before ++ (x ∷ []))) (book_of p w (before ++ (x ∷ []))) (two x) (take n e.places)
 
 module _ {p w : ℕ} {before : List Line} {desk : Desk} (keeping : Keeping p w before desk) where
@@ -83,18 +83,21 @@ module _ {p w : ℕ} {before : List Line} {desk : Desk} (keeping : Keeping p w b
     abbrev ls : List Line
     ls = before ++ (x ∷ [])
 
-    pub publish_refused : (t : SheetOf AnyKind AnyLogic) {f : SheetFault} → Obeys k l (Publish (two x) p w) (Refused f) desk.sheet.axioms desk.sheet.rows t.axioms t.rows → FirstOf (line_checks p w before x behind) (Sheet f)
-    publish_refused t {f} obeys =
-        let (law, _) = obeys b keeping.book in
-        let first : RefusedBy (kind_of before) l b (Publish (two x) p w) f = refused_first k l b (Publish (two x) p w) f (λ (ss, _, e). cc) law in
-        first_by p w before x behind is _ (first_of_sheet (kind_of before) (logic_of before) b (Publish (two x) p w) f (subst (λ (h : Entailment). RefusedBy (kind_of before) h b (Publish (two x) p w) f) (logic_is keeping) first))
+    -- the call that the line stands for
+    abbrev call : Call
+    call = Publish (two x) p w
 
-    module _ (t : SheetOf AnyKind AnyLogic) {n : ℕ} (ke : t.kind ≡ desk.sheet.kind) (le : t.logic ≡ desk.sheet.logic) (obeys : Obeys k l (Publish (two x) p w) (Count n) desk.sheet.axioms desk.sheet.rows t.axioms t.rows) where
-      accepted : Accepted k l b (Publish (two x) p w) × ((ss : List ℕ) × AllSupports l b (two x) ss × (Count n ≡ Count (length ss)))
-      accepted = accepted_none k l b (Publish (two x) p w) (Count n) (λ fault e. cc) (obeys b keeping.book).0
+    pub publish_refused : {f : SheetFault} {t : SheetOf AnyKind AnyLogic} → Obeys any_kind any_logic call (Err f) desk.sheet t → FirstOf (line_checks p w before x behind) (Sheet f)
+    publish_refused {f} obeys =
+        let (first, _) = obeys.law b keeping.book in
+        first_by p w before x behind is _ (first_in (checks (kind_of before) (logic_of before) b call) f (subst (λ (h : Entailment). RefusedBy (kind_of before) h b call f) (logic_is keeping) first))
+
+    module _ {n : ℕ} {t : SheetOf AnyKind AnyLogic} (obeys : Obeys any_kind any_logic call (Ok (Count n)) desk.sheet t) where
+      accepted : Accepted k l b call × ((ss : List ℕ) × AllSupports l b (two x) ss × (Count n ≡ Count (length ss)))
+      accepted = (obeys.law b keeping.book).0
 
       publish_none : NoneOf (line_checks p w before x behind)
-      publish_none = none_by p w before x behind is (none_of_sheet (kind_of before) (logic_of before) b (Publish (two x) p w) (subst (λ (h : Entailment). Accepted (kind_of before) h b (Publish (two x) p w)) (logic_is keeping) accepted.0))
+      publish_none = none_by p w before x behind is (none_in (checks (kind_of before) (logic_of before) b call) (subst (λ (h : Entailment). Accepted (kind_of before) h b call) (logic_is keeping) accepted.0))
 
       booked_now : book_of p w ls ≡ after (Publish (two x) p w) b
       booked_now = book_by p w before x behind is
@@ -107,11 +110,10 @@ module _ {p w : ℕ} {before : List Line} {desk : Desk} (keeping : Keeping p w b
 
       publish_keeping : Keeping p w ls (record desk { sheet = t })
       publish_keeping =
-          let (d, next, keeps) = (obeys b keeping.book).1 in
-          let book : d ≡ book_of p w ls = next_after k l b (Publish (two x) p w) d accepted.0 next ∙ sym booked_now in
+          let (d, next, holds) = (obeys.law b keeping.book).1 in
+          let book : d ≡ book_of p w ls = next_after k l b call d accepted.0 next ∙ sym booked_now in
           let users : users_of ls ≡ users_of before = users_of_same before x (other 4 (omega arith)) in
-          keeping_more keeping x (late_by p w before x behind is (omega arith)) (record desk { sheet = t }) ke le (subst (λ (e : Book). Keeps k l e (held t.axioms) (shown t.rows)) book keeps) (keeping.users ∙ sym users)
-          (λ u i. keeping.admitted u (subst (In u) users i))
+          keeping_more keeping x (late_by p w before x behind is (omega arith)) (record desk { sheet = t }) obeys.kind obeys.logic (subst (Holds any_kind any_logic t) book holds) (keeping.users ∙ sym users) (λ u i. keeping.admitted u (subst (In u) users i))
 
       publish_shows : Shows p w ls (two x)
       publish_shows = (
@@ -120,7 +122,7 @@ module _ {p w : ℕ} {before : List Line} {desk : Desk} (keeping : Keeping p w b
       )
 
       -- the places hold the supports
-      publish_supports : (d e : Buffers) → SearchLeaves k l b (two x) (Count n) d e → AllSupports (logic_of ls) (book_of p w ls) (two x) (take n e.places)
+      publish_supports : (d e : Buffers) → SearchLeaves k l b (two x) (Ok (Count n)) d e → AllSupports (logic_of ls) (book_of p w ls) (two x) (take n e.places)
       publish_supports d e leaves =
           let (ss, all, count) = accepted.1 in
           let (ts, others, filled) = leaves.0 in

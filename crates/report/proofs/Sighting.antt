@@ -1,8 +1,8 @@
 -- What the sheet answers about a goal that is taken and published.
-use Rattle.std.proofs.Common.{◌≡◌, ℕ, zero, suc, ◌<◌, ◌≤◌, Bool, T, List, [], ◌∷◌, ◌++◌, length, get_or, take, Option, sym, refl, ap, ◌∙◌, subst, inl, inr, append_assoc, append-nil, arith}
+use Rattle.std.proofs.Common.{◌≡◌, ℕ, zero, suc, ◌<◌, ◌≤◌, Bool, T, List, [], ◌∷◌, ◌++◌, length, get_or, take, Ok, Err, Option, sym, refl, ap, ◌∙◌, subst, inl, inr, append_assoc, append-nil, arith}
 use Rattle.std.proofs.lemmas.Grind.{flat_map-append}
 use Rattle.base.specs.Words.{Iff, In}
-use Rattle.base.specs.Checks.{NoneOf}
+use Rattle.base.proofs.Checks.{none_first}
 use Rattle.labels.specs.Order.{LabelOrder, JoinPrime, Same}
 use Rattle.labels.proofs.Orders.{same_sym}
 use Rattle.logics.specs.Entailment.{Entailment, Goal}
@@ -12,7 +12,7 @@ use Rattle.engine.specs.Obeys.{Obeys}
 use Rattle.engine.specs.Sight.{IsBoundary, Sees}
 use Rattle.engine.specs.declared.call.SheetFault.{SheetFault}
 use Rattle.engine.specs.declared.call.Call.TheVariants.{Boundary, See}
-use Rattle.engine.specs.declared.call.Answer.TheVariants.{Bound, Seen as SeenAnswer, Refused}
+use Rattle.engine.specs.declared.call.Answer.TheVariants.{Bound, Seen as SeenAnswer}
 use Rattle.prints.specs.Print.{sight_line, sight_lines}
 use Rattle.lines.specs.declared.form.Line.{Line}
 use Rattle.report.specs.declared.desk.Desk.{Desk}
@@ -21,7 +21,7 @@ use Rattle.report.specs.Meaning.{kind_of, logic_of, book_of, users_of}
 use Rattle.report.specs.Report.{Seen}
 use Rattle.report.specs.Stands.{Keeping, Shows}
 use Rattle.report.proofs.Sames.{prime_same, sees_same, boundary_same}
-use Rattle.report.proofs.Stepping.{logic_is, never_refused}
+use Rattle.report.proofs.Stepping.{logic_is}
 
 -- one user more
 pub seen_more : (k : LabelOrder) (l : Entailment) (b : Book) (g : Goal) (us : List ℕ) (seen : List (ℕ × Bool)) (u : ℕ) (told : Bool) → Seen k l b g us seen → Iff (T told) (Sees k l b u g)
@@ -57,28 +57,24 @@ module _ {p w : ℕ} {ls : List Line} {desk : Desk} (keeping : Keeping p w ls de
           let prime : JoinPrime k u = prime_same (kind_of ls) k back u (keeping.admitted u i) in
           ((λ no. no takes), ((λ no. no prime.known), ((λ no. no prime), ((λ no. no shows.1), tt))))
 
-      pub see_refused : {f : SheetFault} → Obeys k l (See u g) (Refused f) desk.sheet.axioms desk.sheet.rows desk.sheet.axioms desk.sheet.rows → ⊥
-      see_refused obeys = elim (obeys b keeping.book).0 [ inl (h, first, _) ↦ never_refused k l b (See u g) h see_none first | inr (_, (r, _, e)) ↦ cc ]
+      pub see_refused : {f : SheetFault} → Obeys any_kind any_logic (See u g) (Err f) desk.sheet desk.sheet → ⊥
+      see_refused {f} obeys = none_first (checks k l b (See u g)) f see_none (obeys.law b keeping.book).0
 
-      pub see_answered : {told : Bool} → Obeys k l (See u g) (SeenAnswer told) desk.sheet.axioms desk.sheet.rows desk.sheet.axioms desk.sheet.rows → Iff (T told) (Sees (kind_of ls) (logic_of ls) b u g)
-      see_answered {told} obeys = elim (obeys b keeping.book).0 [
-        | inl (h, first, _) ↦ absurd (never_refused k l b (See u g) h see_none first)
-        | inr (_, (r, (to, from), e)) ↦
-            let same : r ≡ told = cc in
-            let mine : Iff (T r) (Sees (kind_of ls) l b u g) = ((λ t. sees_same k (kind_of ls) keeping.kind l b u g (to t)), (λ s. from (sees_same (kind_of ls) k back l b u g s))) in
-            subst (λ (h : Entailment). Iff (T told) (Sees (kind_of ls) h b u g)) (logic_is keeping) (subst (λ (q : Bool). Iff (T q) (Sees (kind_of ls) l b u g)) same mine)
-      ]
+      pub see_answered : {told : Bool} → Obeys any_kind any_logic (See u g) (Ok (SeenAnswer told)) desk.sheet desk.sheet → Iff (T told) (Sees (kind_of ls) (logic_of ls) b u g)
+      see_answered {told} obeys =
+          let (_, (r, (to, from), e)) = (obeys.law b keeping.book).0 in
+          let same : r ≡ told = cc in
+          let mine : Iff (T r) (Sees (kind_of ls) l b u g) = ((λ t. sees_same k (kind_of ls) keeping.kind l b u g (to t)), (λ s. from (sees_same (kind_of ls) k back l b u g s))) in
+          subst (λ (h : Entailment). Iff (T told) (Sees (kind_of ls) h b u g)) (logic_is keeping) (subst (λ (q : Bool). Iff (T q) (Sees (kind_of ls) l b u g)) same mine)
 
     bound_none : Accepted k l b (Boundary g)
     bound_none = ((λ no. no takes), ((λ no. no shows.1), tt))
 
-    pub boundary_refused : {f : SheetFault} → Obeys k l (Boundary g) (Refused f) desk.sheet.axioms desk.sheet.rows desk.sheet.axioms desk.sheet.rows → ⊥
-    boundary_refused obeys = elim (obeys b keeping.book).0 [ inl (h, first, _) ↦ never_refused k l b (Boundary g) h bound_none first | inr (_, (v, _, e)) ↦ cc ]
+    pub boundary_refused : {f : SheetFault} → Obeys any_kind any_logic (Boundary g) (Err f) desk.sheet desk.sheet → ⊥
+    boundary_refused {f} obeys = none_first (checks k l b (Boundary g)) f bound_none (obeys.law b keeping.book).0
 
-    pub boundary_answered : {v : Option ℕ} → Obeys k l (Boundary g) (Bound v) desk.sheet.axioms desk.sheet.rows desk.sheet.axioms desk.sheet.rows → IsBoundary (kind_of ls) (logic_of ls) b g v
-    boundary_answered {v} obeys = elim (obeys b keeping.book).0 [
-      | inl (h, first, _) ↦ absurd (never_refused k l b (Boundary g) h bound_none first)
-      | inr (_, (u, is, e)) ↦
-          let same : u ≡ v = cc in
-          subst (λ (h : Entailment). IsBoundary (kind_of ls) h b g v) (logic_is keeping) (boundary_same k (kind_of ls) keeping.kind l b g v (subst (IsBoundary k l b g) same is))
-    ]
+    pub boundary_answered : {v : Option ℕ} → Obeys any_kind any_logic (Boundary g) (Ok (Bound v)) desk.sheet desk.sheet → IsBoundary (kind_of ls) (logic_of ls) b g v
+    boundary_answered {v} obeys =
+        let (_, (u, is, e)) = (obeys.law b keeping.book).0 in
+        let same : u ≡ v = cc in
+        subst (λ (h : Entailment). IsBoundary (kind_of ls) h b g v) (logic_is keeping) (boundary_same k (kind_of ls) keeping.kind l b g v (subst (IsBoundary k l b g) same is))

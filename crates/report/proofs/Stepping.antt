@@ -11,19 +11,15 @@ use Rattle.logics.specs.El.{el, ElRecord, ElLimits}
 use Rattle.logics.specs.Links.{links}
 use Rattle.logics.specs.declared.Record.{Record}
 use Rattle.engine.specs.Book.{Book, after}
-use Rattle.engine.specs.Law.{checks, FirstOf as SheetFirst, NoneOf as SheetNone, RefusedBy, Accepted, Lawfully, Answered, Next}
-use Rattle.engine.specs.Keeps.{Keeps}
-use Rattle.engine.specs.Obeys.{held, shown}
+use Rattle.engine.specs.Law.{checks, RefusedBy, Accepted, Next}
+use Rattle.engine.specs.Obeys.{Holds}
 use Rattle.engine.specs.declared.call.SheetFault.{SheetFault}
 use Rattle.engine.specs.declared.call.Call.{Call}
 use Rattle.engine.specs.declared.call.Call.TheVariants.{Enter}
-use Rattle.engine.specs.declared.call.Answer.{Answer}
-use Rattle.engine.specs.declared.call.Answer.TheVariants.{Refused}
 use Rattle.lines.specs.declared.form.Form.{Form}
 use Rattle.lines.specs.declared.form.Line.{Line}
 use Rattle.lines.specs.Forms.{section}
 use Rattle.lines.specs.Lines.{lines_of}
-use Rattle.report.specs.declared.any.AnyKind.{AnyKind}
 use Rattle.report.specs.declared.any.AnyLogic.{AnyLogic}
 use Rattle.report.specs.declared.any.AnyLogic.TheVariants.{El, Links}
 use Rattle.report.specs.declared.desk.Desk.{Desk}
@@ -51,25 +47,14 @@ module _ (p w : ℕ) (before : List Line) (x : Line) (behind : List ℕ) {f : Fo
   late_by late = subst (λ (h : Form). 3 ≤ section h) (sym is) late
 
 -- the checks of a call on the sheet are those of its line, each fault within the line's
-module _ (k : LabelOrder) (l : Entailment) (b : Book) where
-  first_in : (cs : List (SheetFault × Type 0)) (f : SheetFault) → SheetFirst k l b cs f → FirstOf (of_sheet cs) (Sheet f)
-  first_in [] f first = first
-  first_in (c ∷ cs) f (inl (holds, is)) = inl (holds, ap (λ (g : SheetFault). Sheet g) is)
-  first_in (c ∷ cs) f (inr (fails, rest)) = inr (fails, first_in cs f rest)
+pub first_in : (cs : List (SheetFault × Type 0)) (f : SheetFault) → FirstOf cs f → FirstOf (of_sheet cs) (Sheet f)
+first_in [] f first = first
+first_in (c ∷ cs) f (inl (holds, is)) = inl (holds, ap (λ (g : SheetFault). Sheet g) is)
+first_in (c ∷ cs) f (inr (fails, rest)) = inr (fails, first_in cs f rest)
 
-  none_in : (cs : List (SheetFault × Type 0)) → SheetNone k l b cs → NoneOf (of_sheet cs)
-  none_in [] none = tt
-  none_in (c ∷ cs) (fails, rest) = (fails, none_in cs rest)
-
-  pub first_of_sheet : (c : Call) (f : SheetFault) → RefusedBy k l b c f → FirstOf (of_sheet (checks k l b c)) (Sheet f)
-  first_of_sheet c f first = first_in (checks k l b c) f first
-
-  pub none_of_sheet : (c : Call) → Accepted k l b c → NoneOf (of_sheet (checks k l b c))
-  none_of_sheet c none = none_in (checks k l b c) none
-
-  -- a call that passes its checks is not refused
-  pub never_refused : (c : Call) (f : SheetFault) → Accepted k l b c → RefusedBy k l b c f → ⊥
-  never_refused c f none first = none_first (of_sheet (checks k l b c)) (Sheet f) (none_of_sheet c none) (first_of_sheet c f first)
+pub none_in : (cs : List (SheetFault × Type 0)) → NoneOf cs → NoneOf (of_sheet cs)
+none_in [] none = tt
+none_in (c ∷ cs) (fails, rest) = (fails, none_in cs rest)
 
 -- the logic is the one that the lines name
 chosen_logic : (l : AnyLogic) (x : Line) → LogicChosen x l → any_logic l ≡ logic_by x.form (at x 0) (at x 1)
@@ -99,19 +84,10 @@ pub taken_small : (l : AnyLogic) (r : Record) → (any_logic l).TakesRecord r �
 taken_small (El l) r taken = small_el l.concepts l.roles r l.limits taken
 taken_small (Links l) r taken = (omega (arith, l.limits, taken.from), omega (arith, l.limits, taken.to), omega (arith, taken.rest))
 
--- a call that is refused is refused by its first check that fails, and one that is not passes them all
-module _ (k : LabelOrder) (l : Entailment) (b : Book) (c : Call) where
-  pub refused_first : (f : SheetFault) → (Answered k l b c (Refused f) → ⊥) → Lawfully k l b c (Refused f) → RefusedBy k l b c f
-  refused_first f never (inl (g, first, is)) = let same : g ≡ f = cc in subst (RefusedBy k l b c) same first
-  refused_first f never (inr (_, answered)) = absurd (never answered)
-
-  pub accepted_none : (x : Answer) → ((f : SheetFault) → x ≡ Refused f → ⊥) → Lawfully k l b c x → Accepted k l b c × Answered k l b c x
-  accepted_none x never (inl (f, _, is)) = absurd (never f is)
-  accepted_none x never (inr done) = done
-
-  pub next_after : (d : Book) → Accepted k l b c → Next k l b c d → d ≡ after c b
-  next_after d none (inl (f, first, _)) = absurd (never_refused k l b c f none first)
-  next_after d none (inr (_, is)) = is
+-- the book after a call that passes its checks
+pub next_after : (k : LabelOrder) (l : Entailment) (b : Book) (c : Call) (d : Book) → Accepted k l b c → Next k l b c d → d ≡ after c b
+next_after k l b c d none (inl (f, first, _)) = absurd (none_first (checks k l b c) f none first)
+next_after k l b c d none (inr (_, is)) = is
 
 -- the checks of enter, by two orders that are the same
 module _ (k h : LabelOrder) (s : Same k h) (l : Entailment) (b : Book) (r : Record) (a : ℕ) where
@@ -130,18 +106,17 @@ logic_is {before = before} {desk} keeping = let (x, xs, is, chosen) = keeping.lo
 
 -- one line more, behind the logic
 pub keeping_more : {p w : ℕ} {before : List Line} {desk : Desk} → Keeping p w before desk → (x : Line) → 3 ≤ section x.form → (desk' : Desk) → desk'.sheet.kind ≡ desk.sheet.kind → desk'.sheet.logic ≡ desk.sheet.logic
-    → Keeps (any_kind desk.sheet.kind) (any_logic desk.sheet.logic) (book_of p w (before ++ (x ∷ []))) (held desk'.sheet.axioms) (shown desk'.sheet.rows)
-    → desk'.users.items ≡ users_of (before ++ (x ∷ [])) → ((u : ℕ) → In u (users_of (before ++ (x ∷ []))) → JoinPrime (kind_of before) u) → Keeping p w (before ++ (x ∷ [])) desk'
-keeping_more {p} {w} {before} {desk} keeping x late desk' ke le keeps users admitted =
+    → Holds any_kind any_logic desk'.sheet (book_of p w (before ++ (x ∷ []))) → desk'.users.items ≡ users_of (before ++ (x ∷ [])) → ((u : ℕ) → In u (users_of (before ++ (x ∷ []))) → JoinPrime (kind_of before) u)
+    → Keeping p w (before ++ (x ∷ [])) desk'
+keeping_more {before = before} {desk} keeping x late desk' ke le holds users admitted =
     let some : 0 < length before = not_empty before (named_some desk.sheet.logic before keeping.logic) in
     let same : kind_of (before ++ (x ∷ [])) ≡ kind_of before = kind_of_same before x some (λ e. omega arith) in
     record {
-      kind = subst (λ (h : LabelOrder). Same (any_kind desk'.sheet.kind) h) (sym same) (subst (λ (h : AnyKind). Same (any_kind h) (kind_of before)) (sym ke) keeping.kind);
+      kind = rw (same, ke) keeping.kind;
       logic = named_more desk'.sheet.logic before x (λ e. omega arith) (subst (λ (h : AnyLogic). Named h before) (sym le) keeping.logic);
-      book = subst (λ (h : AnyKind). Keeps (any_kind h) (any_logic desk'.sheet.logic) (book_of p w (before ++ (x ∷ []))) (held desk'.sheet.axioms) (shown desk'.sheet.rows)) (sym ke)
-          (subst (λ (h : AnyLogic). Keeps (any_kind desk.sheet.kind) (any_logic h) (book_of p w (before ++ (x ∷ []))) (held desk'.sheet.axioms) (shown desk'.sheet.rows)) (sym le) keeps);
+      book = holds;
       users = users;
-      admitted = λ u i. subst (λ (h : LabelOrder). JoinPrime h u) (sym same) (admitted u i);
+      admitted = λ u i. rw same (admitted u i);
     }
 
 -- with something else that holds

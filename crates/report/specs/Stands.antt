@@ -9,8 +9,7 @@ use Rattle.tables.specs.Table.{Lacking}
 use Rattle.tables.specs.Rows.{Keeps as KeepsPairs}
 use Rattle.logics.specs.Entailment.{Goal}
 use Rattle.engine.specs.Book.{blank}
-use Rattle.engine.specs.Keeps.{Keeps}
-use Rattle.engine.specs.Obeys.{held, shown}
+use Rattle.engine.specs.Obeys.{Holds}
 use Rattle.prints.specs.declared.Print.{Print}
 use Rattle.prints.specs.Output.{Printed, Adds}
 use Rattle.prints.specs.Print.{sight_lines}
@@ -129,7 +128,7 @@ module _ (p w : ℕ) where
   pub record Keeping (before : List Line) (desk : Desk) : Type 0 where
     pub kind : Same (any_kind desk.sheet.kind) (kind_of before)
     pub logic : Named desk.sheet.logic before
-    pub book : Keeps (any_kind desk.sheet.kind) (any_logic desk.sheet.logic) (book_of p w before) (held desk.sheet.axioms) (shown desk.sheet.rows)
+    pub book : Holds any_kind any_logic desk.sheet (book_of p w before)
     pub users : desk.users.items ≡ users_of before
     pub admitted : (u : ℕ) → In u (users_of before) → JoinPrime (kind_of before) u
 

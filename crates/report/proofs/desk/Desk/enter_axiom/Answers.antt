@@ -10,8 +10,8 @@ returns-in_default c = λ p w before behind is keeping.
 
 pub returns-in_err-enter : goal.returns-in_err-enter
 returns-in_err-enter c = λ p w before behind is keeping.
-    rw (passed_on c.from_residual.ensures.1) (enter_refused keeping c.args.line.now behind is c.enter.new.self (rw c.in-Some.ensures at c.in_err-enter.ensures.law))
+    rw (passed_on c.from_residual.ensures.1) (enter_refused keeping c.args.line.now behind is (rw c.in-Some.ensures at c.in_err-enter.ensures))
 
 pub returns : goal.returns
 returns c = λ p w before behind is keeping.
-    enter_accepted keeping c.args.line.now behind is c.enter.new.self c.enter.ensures.kind c.enter.ensures.logic (rw c.in-Some.ensures at c.in_ok-enter.ensures.law)
+    enter_accepted keeping c.args.line.now behind is (rw c.in-Some.ensures at c.in_ok-enter.ensures)

@@ -14,7 +14,7 @@ returns-in_err-yes c = λ p w before keeping shows.
     let us = c.as_slice-user-items.result.now in
     let i = c.loop-user.user-index in
     let within : In (get_or us i 0) (users_of before) = subst (In (get_or us i 0)) (c.as_slice-user-items.ensures.value ∙ keeping.users) (get_or_in us i 0 (omega arith)) in
-    absurd (see_refused keeping c.args.goal shows within c.in_err-yes.ensures.law)
+    absurd (see_refused keeping c.args.goal shows within c.in_err-yes.ensures)
 
 pub loop-user-preserved : goal.loop-user-preserved
 loop-user-preserved c = λ p w before keeping shows.
@@ -24,7 +24,7 @@ loop-user-preserved c = λ p w before keeping shows.
     let told = c.in_ok-yes.yes in
     let (seen, sights, adds) = c.loop-user.invariant p w before keeping shows in
     let within : In (get_or us i 0) (users_of before) = subst (In (get_or us i 0)) (c.as_slice-user-items.ensures.value ∙ keeping.users) (get_or_in us i 0 (omega arith)) in
-    let sees = see_answered keeping g shows within c.in_ok-yes.ensures.law in
+    let sees = see_answered keeping g shows within c.in_ok-yes.ensures in
     let more = seen_more (kind_of before) (logic_of before) (book_of p w before) g (take i us) seen (get_or us i 0) told sights sees in
     let all : List (ℕ × Bool) = seen ++ ((get_or us i 0, told) ∷ []) in (
       all,
