@@ -46,16 +46,16 @@ pub enum SheetFault {
 impl From<KindFault> for SheetFault {
     ghost from_gives = { λ f g. g ≡ Kind f };
 
-    fn from(fault: KindFault) -> SheetFault {
-        SheetFault::Kind(fault)
+    fn from(kind: KindFault) -> SheetFault {
+        SheetFault::Kind(kind)
     }
 }
 
 impl From<LogicFault> for SheetFault {
     ghost from_gives = { λ f g. g ≡ Logic f };
 
-    fn from(fault: LogicFault) -> SheetFault {
-        SheetFault::Logic(fault)
+    fn from(logic: LogicFault) -> SheetFault {
+        SheetFault::Logic(logic)
     }
 }
 

@@ -178,9 +178,8 @@ impl<K: LabelKind, L: Logic> Sheet<K, L> {
         }
         let all = self.axioms.in_force();
         let records = self.axioms.records();
-        find_supports(&self.logic, records.as_slice(), all, goal, places, area).ok_or(
-            SheetFault::MoreSupports,
-        )
+        let found = find_supports(&self.logic, records.as_slice(), all, goal, places, area);
+        found.ok_or(SheetFault::MoreSupports)
     }
 
     // The meet of the labels of a set of axioms; of none, the top.

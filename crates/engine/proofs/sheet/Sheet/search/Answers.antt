@@ -12,7 +12,7 @@ returns-clause-found g c = λ b keeps.
     let ask = search_askable k l b s.axioms s.rows keeps c.as_slice.result.now same c.in_force-all.result c.in_force-all.ensures c.args.goal (length c.args.area.now) c.requires wide in
     rw c.ok_or.ensures.value
     (found_by k l b s.axioms s.rows keeps c.as_slice.result.now same c.in_force-all.result c.in_force-all.ensures c.args.goal
-    c.args.places.now c.args.area.now c.find_supports.result c.find_supports.new.places c.find_supports.new.area wide c.find_supports.auto.places (c.find_supports.ensures.found ask))
+    c.args.places.now c.args.area.now c.find_supports-found.result c.find_supports-found.new.places c.find_supports-found.new.area wide c.find_supports-found.auto.places (c.find_supports-found.ensures.found ask))
 
 pub returns-clause-leaves : goal.returns-clause-leaves
 returns-clause-leaves g c = λ b keeps.
@@ -24,4 +24,4 @@ returns-clause-leaves g c = λ b keeps.
     let ask = search_askable k l b s.axioms s.rows keeps c.as_slice.result.now same c.in_force-all.result c.in_force-all.ensures c.args.goal (length c.args.area.now) c.requires wide in
     rw c.ok_or.ensures.value
     (found_leaves k l b s.axioms s.rows keeps c.as_slice.result.now same c.in_force-all.result c.in_force-all.ensures c.args.goal
-    c.args.places.now c.args.area.now c.find_supports.result c.find_supports.new.places c.find_supports.new.area (c.find_supports.ensures.found ask))
+    c.args.places.now c.args.area.now c.find_supports-found.result c.find_supports-found.new.places c.find_supports-found.new.area (c.find_supports-found.ensures.found ask))
