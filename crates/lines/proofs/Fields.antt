@@ -1,11 +1,15 @@
 -- Bytes that are cut at a separator.
-use Rattle.std.proofs.Common.{◌≡◌, ℕ, zero, suc, ◌+◌, ◌<◌, ◌≤◌, Bool, true, false, cond, eqb, ◌⊎◌, List, [], ◌∷◌, ◌++◌, length, get_or, take, drop, count_by as count_by_of, sym, refl, ap, ◌∙◌, subst, ap₂, inl, inr, append-nil, add-zero, arith, length-drop, take-append-drop, get_or-drop, eq-eqb, ne_eqb, eqb-true, false-eqb}
+use Rattle.std.proofs.Common.{◌≡◌, ℕ, zero, suc, ◌+◌, ◌<◌, Bool, true, false, cond, eqb, ◌⊎◌, List, [], ◌∷◌, ◌++◌, length, get_or, take, drop, count_by as count_by_of, unwrap_or, Option, Some, None, sym, refl, ap, ◌∙◌, subst, ap₂, inl, inr, append-nil, add-zero, arith, length-drop, take-append-drop, get_or-drop, eq-eqb, eqb-true}
 use borrow.Author.Tests.{eqb-false}
 use Rattle.std.proofs.lemmas.List.{drop_more}
-use Rattle.std.proofs.lemmas.List.Sums.{sum_by-cons, sum_by-append}
+use Rattle.std.proofs.lemmas.Grind.{common_steps}
+use Rattle.std.proofs.lemmas.Bool.Decides.{Decides-eqb}
+use Rattle.std.proofs.lemmas.Slice.Eq.{slice_eq-Decides, strip_prefix_is}
+use lib.Pointwise.{pointwise}
+use mathlib.Core.Logic.{◌≢◌}
 use Rattle.base.specs.Words.{In}
 use Rattle.base.specs.Commas.{tails}
-use Rattle.lines.specs.Reading.{Parted}
+use Rattle.lines.specs.Reading.{FirstPlace, Parted}
 
 -- the separator does not stand in the bytes
 abbrev pub Bare : ℕ → List ℕ → Type 0
@@ -21,6 +25,10 @@ first_part c (a ∷ f) (b ∷ g) xs ys bf bg e =
     let t : f ++ (c ∷ xs) ≡ g ++ (c ∷ ys) = cc in
     let (same, rest) = first_part c f g xs ys (λ i. bf (inr i)) (λ i. bg (inr i)) t in
     (ap₂ ◌∷◌ h same, rest)
+
+pub in_middle : {A : Type 0} (x : A) (xs ys : List A) → In x (xs ++ (x ∷ ys))
+in_middle x [] ys = inl refl
+in_middle x (y ∷ xs) ys = inr (in_middle x xs ys)
 
 in_append : (c : ℕ) (xs ys : List ℕ) → In c (xs ++ ys) → In c xs ⊎ In c ys
 in_append c [] ys i = inr i
@@ -39,15 +47,14 @@ bare_take c (b ∷ bs) (suc r) none (inl e) = none 0 (omega arith) (sym e)
 bare_take c (b ∷ bs) (suc r) none (inr i) = bare_take c bs r (λ k lt e. none (suc k) (omega arith) e) i
 
 pub cut_at : (c : ℕ) (bs : List ℕ) (r : ℕ) → r < length bs → get_or bs r 0 ≡ c → bs ≡ take r bs ++ (c ∷ drop (r + 1) bs)
-cut_at c bs r lt e =
-    sym (take-append-drop r bs) ∙ ap (λ (l : List ℕ). take r bs ++ l) (drop_more bs r 0 lt ∙ ap (λ (b : ℕ). b ∷ drop (r + 1) bs) e)
+cut_at c bs r lt e = grind (arith, common_steps, drop_more bs r 0 lt, take-append-drop r bs)
 
 abbrev pub comma : ℕ → Bool
 comma b = eqb b 44
 
 -- a byte more in front
 count_by : (b : ℕ) (bs : List ℕ) (t : Bool) → eqb b 44 ≡ t → count_by_of comma (b ∷ bs) ≡ cond t 1 0 + count_by_of comma bs
-count_by b bs t is = sum_by-cons (λ x. cond (comma x) 1 0) b bs ∙ ap (λ (u : Bool). cond u 1 0 + count_by_of comma bs) is
+count_by b bs t is = grind (arith, common_steps)
 
 -- each of the fields has no comma
 abbrev pub AllBare : List (List ℕ) → Type 0
@@ -96,11 +103,11 @@ parted_of (b ∷ bs) begins =
     (c.first ∷ c.others, record { bytes = ap₂ ◌∷◌ is c.bytes; bare = c.bare }, omega (arith, c.count, count_by b bs true (eq-eqb b 44 is)))
 
 count_append : (xs ys : List ℕ) → count_by_of comma (xs ++ ys) ≡ count_by_of comma xs + count_by_of comma ys
-count_append xs ys = sum_by-append (λ x. cond (comma x) 1 0) xs ys
+count_append xs ys = grind (arith, common_steps)
 
 count_bare : (f : List ℕ) → Bare 44 f → count_by_of comma f ≡ 0
 count_bare [] bare = refl
-count_bare (b ∷ f) bare = omega (arith, count_by b f false (ne_eqb b 44 (λ e. bare (inl (sym e)))), count_bare f (λ i. bare (inr i)))
+count_bare (b ∷ f) bare = grind (arith, count_by b f, count_bare f (λ i. bare (inr i)))
 
 -- as many commas as fields
 count_tails : (fs : List (List ℕ)) → AllBare fs → count_by_of comma (tails fs) ≡ length fs
@@ -132,18 +139,33 @@ fields_unique (f ∷ fs) (g ∷ gs) bf bg e =
     let (same, rest) = parts f fs g gs bf bg t in
     ap₂ ◌∷◌ same (fields_unique fs gs (λ h i. bf h (inr i)) (λ h i. bg h (inr i)) rest)
 
--- the first byte, and the others
-pub first_byte : (bs : List ℕ) (b : ℕ) → false ≡ eqb (length bs) 0 → get_or bs 0 0 ≡ b → (rest : List ℕ) × (bs ≡ b ∷ rest)
-first_byte [] b some e = absurd (false-eqb 0 0 some refl)
-first_byte (x ∷ bs) b some e = (bs, ap (λ (a : ℕ). a ∷ bs) e)
+-- bytes up to the next comma have none, and fields begin there
+cut_field : (bs : List ℕ) (o : Option ℕ) → FirstPlace 44 bs o
+    → let r = unwrap_or o (length bs) in Bare 44 (take r bs) × (0 < length (drop r bs) → get_or (drop r bs) 0 0 ≡ 44)
+cut_field bs None before = (bare_take 44 bs (length bs) before, λ some. absurd (omega (arith, length-drop (length bs) bs)))
+cut_field bs (Some r) (within, found, before) = (bare_take 44 bs r before, λ some. get_or-drop r bs 0 0 ∙ ap (λ (i : ℕ). get_or bs i 0) (add-zero r) ∙ found)
 
 -- a search for the next comma finds the end of the first field
-pub field_found : (bs : List ℕ) (r : ℕ) → r ≤ length bs → ((k : ℕ) → k < r → get_or bs k 0 ≡ 44 → ⊥) → (r < length bs → get_or bs r 0 ≡ 44)
-    → (f : List ℕ) (fs : List (List ℕ)) → Parted (44 ∷ bs) (f ∷ fs) → (take r bs ≡ f) × Parted (drop r bs) fs
-field_found bs r within before found f fs p =
-    let begins : 0 < length (drop r bs) → get_or (drop r bs) 0 0 ≡ 44 = λ some.
-    get_or-drop r bs 0 0 ∙ ap (λ (i : ℕ). get_or bs i 0) (add-zero r) ∙ found (omega (arith, length-drop r bs)) in
+pub first_field : (b : ℕ) (bs : List ℕ) (o : Option ℕ) → FirstPlace 44 bs o → (fields : List (List ℕ)) → Parted (b ∷ bs) fields
+    → let r = unwrap_or o (length bs) in (others : List (List ℕ)) × (fields ≡ take r bs ∷ others) × Parted (drop r bs) others
+first_field b bs o search [] p = absurd (let e = p.bytes in cc)
+first_field b bs o search (f ∷ fs) p =
+    let r = unwrap_or o (length bs) in
+    let (bare, begins) = cut_field bs o search in
     let (others, q, _) = parted_of (drop r bs) begins in
     let t : bs ≡ f ++ tails fs = let e = p.bytes in cc in
-    let (same, rest) = parts (take r bs) others f fs (all_bare (take r bs) others (bare_take 44 bs r before) q.bare) p.bare (ap (λ (l : List ℕ). take r bs ++ l) (sym q.bytes) ∙ take-append-drop r bs ∙ t) in
-    (same, record { bytes = q.bytes ∙ rest; bare = λ g i. p.bare g (inr i) })
+    let (same, rest) = parts (take r bs) others f fs (all_bare (take r bs) others bare q.bare) p.bare (ap (λ (l : List ℕ). take r bs ++ l) (sym q.bytes) ∙ take-append-drop r bs ∙ t) in
+    (fs, ap (λ (g : List ℕ). g ∷ fs) (sym same), record { bytes = q.bytes ∙ rest; bare = λ g i. p.bare g (inr i) })
+
+-- where no bytes are, no fields are
+pub no_fields : (fields : List (List ℕ)) (bs : List ℕ) → Parted bs fields → length bs ≡ 0 → fields ≡ []
+no_fields [] bs p none = refl
+no_fields (f ∷ fs) bs p none = absurd (omega (arith, ap length p.bytes))
+
+-- what a word shows of the bytes that begin with it, and of those that do not
+pub stripped : (bs word : List ℕ) → pointwise eqb (take (length word) bs) word ≡ true → bs ≡ word ++ drop (length word) bs
+stripped bs word is =
+    sym (take-append-drop (length word) bs) ∙ ap (λ (l : List ℕ). l ++ drop (length word) bs) ((slice_eq-Decides Decides-eqb (take (length word) bs) word true (sym is)).0 refl)
+
+pub not_stripped : (bs word rest : List ℕ) → pointwise eqb (take (length word) bs) word ≡ false → bs ≢ word ++ rest
+not_stripped bs word rest is = strip_prefix_is Decides-eqb bs word None is rest

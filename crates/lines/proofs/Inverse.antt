@@ -1,5 +1,5 @@
 -- What is written is read back as the same.
-use Rattle.std.proofs.Common.{◌≡◌, ℕ, zero, suc, ◌^◌, ◌<◌, ◌≤◌, List, [], ◌∷◌, ◌++◌, map, length, get_or, take, decimal, Option, sym, refl, ap, ◌∙◌, subst, ap₂, inl, inr, append_assoc, arith, take-append-drop, length-take-le}
+use Rattle.std.proofs.Common.{◌≡◌, ℕ, zero, suc, ◌^◌, ◌<◌, List, [], ◌∷◌, ◌++◌, map, length, get_or, take, decimal, Option, sym, refl, ap, ◌∙◌, subst, ap₂, inl, inr, append_assoc, arith, rules, take-append-drop, length-take-le}
 use Rattle.std.specs.Int.{IsInRange as Between}
 use Rattle.std.proofs.lemmas.Fmt.{digits_decimal, decimal_injective}
 use Rattle.std.proofs.lemmas.List.{append_cancel_left, length-map}
@@ -7,10 +7,6 @@ use Rattle.std.proofs.lemmas.Str.Parse.{not_in_digits}
 use Rattle.base.specs.Words.{In}
 use Rattle.base.specs.Commas.{tails}
 use Rattle.lines.specs.declared.form.Form.{Form}
-use Rattle.lines.specs.declared.form.Form.TheVariants.{Kind, Pair, Logic, Axiom, User, Goal}
-use Rattle.lines.specs.declared.form.KindForm.TheVariants.{Chain, Sets, House, Table}
-use Rattle.lines.specs.declared.form.LogicForm.TheVariants.{El, Links}
-use Rattle.lines.specs.declared.form.AxiomForm.TheVariants.{Lies, Both, Partner, Source, Link}
 use Rattle.lines.specs.declared.form.Line.{Line}
 use Rattle.lines.specs.declared.fault.TextFault.{TextFault}
 use Rattle.lines.specs.declared.fault.TextFault.TheVariants.{Malformed, Misplaced, NotANumber, PrintTooLong, FileTooLong}
@@ -18,8 +14,8 @@ use Rattle.lines.specs.Forms.{opening, arity, May}
 use Rattle.lines.specs.Lines.{numbers_of, body, text, Whole}
 use Rattle.lines.specs.Reading.{Shaped, Ended, TextFails, endless, shapeless, misplaced, unreadable}
 use Rattle.lines.proofs.Numbers.{plain}
-use Rattle.lines.proofs.Fields.{Bare, AllBare, bare_append, first_part, fields_unique}
-use Rattle.lines.proofs.Openings.{same_opening}
+use Rattle.lines.proofs.Fields.{Bare, AllBare, in_middle, bare_append, first_part, fields_unique}
+use Rattle.lines.proofs.Openings.{same_opening, few_numbers}
 
 -- each byte lies above the line feed
 abbrev above : List ℕ → Type 0
@@ -32,20 +28,7 @@ bare_above (b ∷ bs) (lt, more) (inr i) = bare_above bs more i
 bare_above [] more i = i
 
 above_opening : (f : Form) → above (opening f)
-above_opening (Kind Chain) = search arith
-above_opening (Kind Sets) = search arith
-above_opening (Kind House) = search arith
-above_opening (Kind Table) = search arith
-above_opening Pair = search arith
-above_opening (Logic El) = search arith
-above_opening (Logic Links) = search arith
-above_opening (Axiom Lies) = search arith
-above_opening (Axiom Both) = search arith
-above_opening (Axiom Partner) = search arith
-above_opening (Axiom Source) = search arith
-above_opening (Axiom Link) = search arith
-above_opening User = search arith
-above_opening Goal = search arith
+above_opening f = search arith
 
 place_in : (c : ℕ) (bs : List ℕ) → In c bs → (k : ℕ) × (k < length bs) × (get_or bs k 0 ≡ c)
 place_in c [] i = absurd i
@@ -64,10 +47,9 @@ Small ns = (n : ℕ) → In n ns → n < 2 ^ 32
 
 in_take : (k : ℕ) (ns : List ℕ) (n : ℕ) → In n (take k ns) → In n ns
 in_take zero [] n i = i
-in_take zero (m ∷ ns) n i = absurd i
 in_take (suc k) [] n i = i
-in_take (suc k) (m ∷ ns) n (inl e) = inl e
-in_take (suc k) (m ∷ ns) n (inr i) = inr (in_take k ns n i)
+in_take zero (m ∷ ns) n i = absurd i
+in_take (suc k) (m ∷ ns) n i = search (rules, in_take k ns n)
 
 bare_tails : (ns : List ℕ) → Small ns → Bare 10 (tails (map decimal ns))
 bare_tails [] small i = i
@@ -115,23 +97,6 @@ text_unique x y v w r s e =
     let numbers : x.numbers ≡ y.numbers = numbers_unique y.form x.numbers y.numbers v' w (append_cancel_left (opening y.form) _ _ same') in
     (ap₂ (λ (f : Form) (ns : List ℕ). record { form = f; numbers = ns }) form numbers, rest)
 
--- no form has more than four numbers
-few_numbers : (f : Form) → arity f ≤ 4
-few_numbers (Kind Chain) = omega arith
-few_numbers (Kind Sets) = omega arith
-few_numbers (Kind House) = omega arith
-few_numbers (Kind Table) = omega arith
-few_numbers Pair = omega arith
-few_numbers (Logic El) = omega arith
-few_numbers (Logic Links) = omega arith
-few_numbers (Axiom Lies) = omega arith
-few_numbers (Axiom Both) = omega arith
-few_numbers (Axiom Partner) = omega arith
-few_numbers (Axiom Source) = omega arith
-few_numbers (Axiom Link) = omega arith
-few_numbers User = omega arith
-few_numbers Goal = omega arith
-
 -- a line has the shape of its form
 own_shape : (x : Line) → Whole x → Shaped (body x) x.form (map decimal (numbers_of x))
 own_shape x w =
@@ -141,10 +106,6 @@ own_shape x w =
       parted = record { bytes = refl; bare = all_bare_decimals (numbers_of x) (small_numbers x w) };
       count = length-map (numbers_of x) decimal ∙ length-take-le (arity x.form) x.numbers (omega (arith, few_numbers x.form, w.four));
     }
-
-has_end : (xs ys : List ℕ) → In 10 ((xs ++ (10 ∷ [])) ++ ys)
-has_end [] ys = inl refl
-has_end (x ∷ xs) ys = inr (has_end xs ys)
 
 in_decimals : (field : List ℕ) (ns : List ℕ) → In field (map decimal ns) → (n : ℕ) × In n ns × (field ≡ decimal n)
 in_decimals field [] i = absurd i
@@ -164,7 +125,7 @@ module _ (last : Option Form) (users : ℕ) (bs : List ℕ) (x : Line) (after : 
       (form, fields_unique fields (map decimal (numbers_of x)) s.parted.bare (all_bare_decimals (numbers_of x) (small_numbers x w)) (sym s.parted.bytes ∙ behind))
 
   pub no_text_fault : (f : TextFault) → TextFails last users bs f → ⊥
-  no_text_fault Malformed (endless none) = none (subst (In 10) (sym e) (has_end (body x) after))
+  no_text_fault Malformed (endless none) = none (subst (In 10) (sym (e ∙ append_assoc (body x) (10 ∷ []) after)) (in_middle 10 (body x) after))
   no_text_fault Malformed (shapeless line rest ended none) = none x.form (map decimal (numbers_of x)) (subst (λ (l : List ℕ). Shaped l x.form (map decimal (numbers_of x))) (sym (same_line line rest ended)) (own_shape x w))
   no_text_fault Misplaced (misplaced line rest ended f fields s never) = never (subst (May last users) (sym (same_shape line rest ended f fields s).0) may)
   no_text_fault NotANumber (unreadable line rest ended f fields s _ field i none) =

@@ -1,50 +1,42 @@
 -- What a field that writes a number looks like.
-use Rattle.std.proofs.Common.{◌≡◌, ℕ, ◌-◌, ◌^◌, ◌<◌, ◌≤◌, List, map, length, get_or, take, drop, decimal, sym, ap, ◌∙◌, subst, arith, take-append-drop}
-use mathlib.Core.List.{map-append}
+use Rattle.std.proofs.Common.{◌≡◌, ℕ, ◌^◌, ◌<◌, List, length, get_or, decimal, MatchOption, MatchResult, Option, Result, Ok, Err, sym, ap, ◌∙◌, subst, inl, inr, arith}
 use native.Mathlib.Decide.{dec_lt}
-use Rattle.std.proofs.lemmas.Bool.Decides.{nat_tests}
-use Rattle.std.specs.Str.Parse.{AllDigits, digits_value}
-use Rattle.std.specs.Char.{digit_value as digit_value_of}
-use Rattle.std.specs.Int.{IsInRange}
-use Rattle.std.specs.Int.Digits.{number_from_digits, number_from_digits_after}
-use Rattle.std.proofs.lemmas.Int.Digits.{digits_value_is, number_after_append, number_after_ge}
-use Rattle.std.proofs.lemmas.Str.Parse.{IsNumeralModel, numerals_by_value, tells_digits}
-use Rattle.std.proofs.lemmas.Fmt.{decimal_nonempty, decimal_digit, first_decimal, digits_decimal, digits_value-decimal, decimal-digits_value}
+use Rattle.std.specs.Borrow.{Bor}
+use Rattle.std.specs.Result.{result_ok}
+use Rattle.std.specs.Str.{IsUtf8}
+use Rattle.std.specs.Str.Parse.{AllDigits, digits_value, ParsesUnsigned}
+use Rattle.std.proofs.lemmas.Str.{IsUtf8-from_ascii}
+use Rattle.std.proofs.lemmas.Str.Parse.{IsNumeralModel, numerals_by_value, tells_digits, parse_plain}
+use Rattle.std.proofs.lemmas.Fmt.{IsAscii-decimal, decimal_nonempty, decimal_digit, first_decimal, digits_decimal, digits_value-decimal, decimal-digits_value}
+use Rattle.lines.specs.Reading.{Padded, NoNumber}
 
 pub plain : IsNumeralModel (AllDigits 10) (digits_value 10)
 plain = numerals_by_value (AllDigits 10) tells_digits
 
--- a decimal digit's value
-pub digit_value : (c : ℕ) → IsInRange 48 57 c → digit_value_of c ≡ c - 48
-digit_value c within = grind (arith, nat_tests)
+-- no number is padded
+none_padded : (n : ℕ) → n < 2 ^ 32 → Padded (decimal n) → ⊥
+none_padded n small padded = elim (dec_lt 0 n) [
+  | yes more ↦
+      let first = first_decimal n more (omega arith) in elim padded [ inl plus ↦ omega arith | inr zero ↦ omega arith ]
+  | no none ↦ let one = decimal_digit n (omega arith) in
+      elim padded [ inl plus ↦ omega (arith, ap (λ (f : List ℕ). get_or f 0 0) one) | inr zero ↦ omega (arith, ap length one) ]
+]
 
--- the first digits of a number make no greater one
-pub front_value : (bs : List ℕ) (i : ℕ) → digits_value 10 (take i bs) ≤ digits_value 10 bs
-front_value bs i =
-    let whole : number_from_digits 10 (map digit_value_of bs) ≡ number_from_digits_after 10 (number_from_digits 10 (map digit_value_of (take i bs))) (map digit_value_of (drop i bs)) =
-    ap (λ (l : List ℕ). number_from_digits 10 (map digit_value_of l)) (sym (take-append-drop i bs)) ∙ ap (number_from_digits 10) (map-append digit_value_of (take i bs) (drop i bs)) ∙ number_after_append 10 0 (map digit_value_of (take i bs)) (map digit_value_of (drop i bs)) in
-    omega (arith, digits_value_is 10 bs, digits_value_is 10 (take i bs), number_after_ge 10 (number_from_digits 10 (map digit_value_of (take i bs))) (map digit_value_of (drop i bs)) (omega arith))
+pub padded_number : (field : List ℕ) → Padded field → NoNumber field
+padded_number field padded n small e = none_padded n small (subst Padded e padded)
 
--- a number has digits alone, at least one, and no zero before another digit
-pub record Plain (field : List ℕ) (n : ℕ) : Type 0 where
-  pub some : 0 < length field
-  pub first : get_or field 0 0 ≡ 48 → length field ≡ 1
-  pub digits : AllDigits 10 field
-  pub is : digits_value 10 field ≡ n
+-- a number is text
+pub text_of : {E : Type 0} (V : E → Type 0) (field : List ℕ) (r : Result (Bor (List ℕ)) E) (o : Option (Bor (List ℕ))) → o ≡ result_ok r
+    → MatchResult r (λ s. (s.now ≡ field) × IsUtf8 field) (λ e. (IsUtf8 field → ⊥) × V e) → MatchOption o (NoNumber field) (λ s. s.now ≡ field)
+text_of V field (Ok s) o is h = rw is h.0
+text_of V field (Err e) o is h = rw is (λ n small same. h.0 (subst IsUtf8 (sym same) (IsUtf8-from_ascii (decimal n) (IsAscii-decimal n (omega arith)))))
 
-pub plain_decimal : (field : List ℕ) (n : ℕ) → n < 2 ^ 32 → field ≡ decimal n → Plain field n
-plain_decimal field n small e =
-    let wide : n < 2 ^ 64 = omega arith in
-    subst (λ (f : List ℕ). Plain f n) (sym e) (record {
-      some = decimal_nonempty n wide;
-      first = λ zero. elim (dec_lt 0 n) [
-        | yes more ↦ absurd (omega (arith, first_decimal n more wide))
-        | no none ↦ ap length (decimal_digit n (omega arith))
-      ];
-      digits = digits_decimal plain n wide;
-      is = digits_value-decimal plain n wide;
-    })
-
-pub decimal_plain : (field : List ℕ) (n : ℕ) → n < 2 ^ 32 → Plain field n → field ≡ decimal n
-decimal_plain field n small p =
-    sym (decimal-digits_value plain field p.digits p.some p.first (omega (arith, p.is))) ∙ ap decimal p.is
+-- what `parse` makes of a field that is not padded
+pub parsed_number : {E : Type 0} (field : List ℕ) (r : Result ℕ E) → ParsesUnsigned 32 10 field r → (Padded field → ⊥) → MatchOption (result_ok r) (NoNumber field) (λ n. (field ≡ decimal n) × (n < 2 ^ 32))
+parsed_number {E} field (Ok n) h bare =
+    let ((digits, some, small), is) = parse_plain plain {E = E} 32 field (Ok n) h (λ plus. bare (inl plus)) in
+    let one : get_or field 0 0 ≡ 48 → length field ≡ 1 = λ zero. elim (dec_lt 1 (length field)) [ yes more ↦ absurd (bare (inr (zero, more))) | no none ↦ omega arith ] in
+    (sym (decimal-digits_value plain field digits some one (omega arith)) ∙ ap decimal (sym is), omega arith)
+parsed_number {E} field (Err e) h bare = λ n small same.
+    parse_plain plain {E = E} 32 field (Err e) h (λ plus. bare (inl plus))
+    (subst (λ (f : List ℕ). AllDigits 10 f × (0 < length f) × (digits_value 10 f < 2 ^ 32)) (sym same) (digits_decimal plain n (omega arith), decimal_nonempty n (omega arith), omega (arith, digits_value-decimal plain n (omega arith))))

@@ -1,11 +1,11 @@
--- No form's opening begins another's.
-use Rattle.std.proofs.Common.{◌≡◌, ℕ, cond, eqb, List, [], ◌∷◌, ◌++◌, get_or, sym, refl, ap, ◌∙◌}
+-- No form's opening begins another's, and no form has many numbers.
+use Rattle.std.proofs.Common.{◌≡◌, ℕ, ◌≤◌, cond, eqb, List, [], ◌∷◌, ◌++◌, get_or, sym, ap, ◌∙◌, arith}
 use Rattle.lines.specs.declared.form.Form.{Form}
 use Rattle.lines.specs.declared.form.Form.TheVariants.{Kind, Pair, Logic, Axiom, User, Goal}
 use Rattle.lines.specs.declared.form.KindForm.TheVariants.{Chain, Sets, House, Table}
 use Rattle.lines.specs.declared.form.LogicForm.TheVariants.{El, Links}
 use Rattle.lines.specs.declared.form.AxiomForm.TheVariants.{Lies, Both, Partner, Source, Link}
-use Rattle.lines.specs.Forms.{opening}
+use Rattle.lines.specs.Forms.{opening, arity}
 
 -- the first of the cases whose number it is
 abbrev pick : Form → List (ℕ × Form) → ℕ → Form
@@ -22,20 +22,7 @@ abbrev told : List ℕ → Form
 told bs = pick (pick (Kind Table) ((99, Kind Chain) ∷ (115, Kind Sets) ∷ (104, Kind House) ∷ []) (get_or bs 2 0)) (letters (get_or bs 2 0)) (get_or bs 0 0)
 
 told_opening : (f : Form) (rest : List ℕ) → told (opening f ++ rest) ≡ f
-told_opening (Kind Chain) rest = refl
-told_opening (Kind Sets) rest = refl
-told_opening (Kind House) rest = refl
-told_opening (Kind Table) rest = refl
-told_opening Pair rest = refl
-told_opening (Logic El) rest = refl
-told_opening (Logic Links) rest = refl
-told_opening (Axiom Lies) rest = refl
-told_opening (Axiom Both) rest = refl
-told_opening (Axiom Partner) rest = refl
-told_opening (Axiom Source) rest = refl
-told_opening (Axiom Link) rest = refl
-told_opening User rest = refl
-told_opening Goal rest = refl
+told_opening f rest = grind arith
 
 pub same_opening : (f g : Form) (xs ys : List ℕ) → opening f ++ xs ≡ opening g ++ ys → f ≡ g
 same_opening f g xs ys e = sym (told_opening f xs) ∙ ap told e ∙ told_opening g ys
@@ -45,3 +32,7 @@ pub pair_opening : (f : Form) (rest : List ℕ) → get_or (opening f ++ rest) 0
 pair_opening f rest first =
     let bs = opening f ++ rest in
     sym (told_opening f rest) ∙ ap (pick (pick (Kind Table) ((99, Kind Chain) ∷ (115, Kind Sets) ∷ (104, Kind House) ∷ []) (get_or bs 2 0)) (letters (get_or bs 2 0))) first
+
+-- no form has more than four numbers
+pub few_numbers : (f : Form) → arity f ≤ 4
+few_numbers f = search (arith)

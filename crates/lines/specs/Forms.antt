@@ -2,6 +2,8 @@
 use Rattle.std.specs.Prelude.{◌≡◌, ℕ, ◌<◌, ◌≤◌, ◌⊎◌, List, Some, None, codes, Option}
 use Rattle.lines.specs.declared.form.Form.{Form}
 use Rattle.lines.specs.declared.form.Form.TheVariants.{Kind, Pair, Logic, Axiom, User, Goal}
+use Rattle.lines.specs.declared.form.Section.{Section}
+use Rattle.lines.specs.declared.form.Section.TheVariants.{Kind as Kinds, Pairs, Logic as Logics, Axioms, Users, Goals}
 use Rattle.lines.specs.declared.form.KindForm.TheVariants.{Chain, Sets, House, Table}
 use Rattle.lines.specs.declared.form.LogicForm.TheVariants.{El, Links}
 use Rattle.lines.specs.declared.form.AxiomForm.TheVariants.{Lies, Both, Partner, Source, Link}
@@ -48,6 +50,15 @@ section (Logic l) = 2
 section (Axiom a) = 3
 section User = 4
 section Goal = 5
+
+-- the place of a section among them
+abbrev pub place : Section → ℕ
+place Kinds = 0
+place Pairs = 1
+place Logics = 2
+place Axioms = 3
+place Users = 4
+place Goals = 5
 
 -- pairs are for a table
 abbrev pub OfTable : Form → Type 0

@@ -1,5 +1,5 @@
 -- When the bytes of a file go on with a line, and why they do not.
-use Rattle.std.specs.Prelude.{◌≡◌, ℕ, ◌-◌, ◌^◌, ◌<◌, List, ◌∷◌, ◌++◌, map, length, take, drop, replicate, decimal, Option, ◌≢◌}
+use Rattle.std.specs.Prelude.{◌≡◌, ℕ, ◌-◌, ◌^◌, ◌<◌, ◌⊎◌, List, ◌∷◌, ◌++◌, map, length, take, drop, replicate, decimal, Option, Some, None, ◌≢◌, slice_index}
 use Rattle.base.specs.Words.{In}
 use Rattle.base.specs.Commas.{tails}
 use Rattle.lines.specs.declared.form.Form.{Form}
@@ -8,6 +8,11 @@ use Rattle.lines.specs.declared.fault.TextFault.{TextFault}
 use Rattle.lines.specs.declared.fault.TextFault.TheVariants.{Malformed, Misplaced, NotANumber}
 use Rattle.lines.specs.Forms.{opening, arity, May}
 use Rattle.lines.specs.Lines.{text, Whole}
+
+-- the first place where the byte stands in the bytes, or none where it does not
+abbrev pub FirstPlace : ℕ → List ℕ → Option ℕ → Type 0
+FirstPlace b bs None = (k : ℕ) → k < length bs → slice_index bs k ≢ b
+FirstPlace b bs (Some i) = (i < length bs) × (slice_index bs i ≡ b) × ((k : ℕ) → k < i → slice_index bs k ≢ b)
 
 -- these fields, each behind a comma and none with a comma in it
 pub record Parted (bs : List ℕ) (fields : List (List ℕ)) : Type 0 where
@@ -20,6 +25,10 @@ pub record Shaped (line : List ℕ) (f : Form) (fields : List (List ℕ)) : Type
   pub opened : line ≡ opening f ++ rest
   pub parted : Parted rest fields
   pub count : length fields ≡ arity f
+
+-- a field that begins with a plus sign, or with a zero before another byte
+abbrev pub Padded : List ℕ → Type 0
+Padded field = (slice_index field 0 ≡ 43) ⊎ ((slice_index field 0 ≡ 48) × (1 < length field))
 
 -- a field that is no decimal number to 4,294,967,295 without leading zeros
 abbrev pub NoNumber : List ℕ → Type 0

@@ -1,16 +1,9 @@
 // Finding bytes.
-ghost use Rattle.std.specs.Prelude.{◌≡◌, ℕ, ◌<◌, ◌≤◌, length, ◌≢◌, slice_index};
+ghost use Rattle.lines.specs.Reading.{FirstPlace};
 
-// The index of the first byte that equals `b`, or the length where there is none.
-pub(crate) fn find(bytes: &[u8], b: u8) -> usize
-    ensures within { result ≤ length bytes.now }
-    ensures before { (k : ℕ) → k < result → slice_index bytes.now k ≢ b }
-    ensures found { result < length bytes.now → slice_index bytes.now result ≡ b }
+// The index of the first byte that equals `b`.
+pub(crate) fn find(bytes: &[u8], b: u8) -> Option<usize>
+    ensures { FirstPlace b bytes.now result }
 {
-    for (i, x) in bytes.iter().enumerate() {
-        if *x == b {
-            return i;
-        }
-    }
-    bytes.len()
+    bytes.iter().position(|x| *x == b)
 }

@@ -5,15 +5,15 @@ ghost use Rattle.lines.specs.Fault.{number as number_of};
 #[derive(Clone, Copy, PartialEq, Eq, Debug)]
 pub enum TextFault {
     // an unknown letter or word, a wrong count of fields, or no line end
-    Malformed,
+    Malformed = 1,
     // a line whose letter is not allowed there
-    Misplaced,
+    Misplaced = 2,
     // a field that is no decimal number of 32 bits without leading zeros
-    NotANumber,
+    NotANumber = 3,
     // the print is longer than the output
-    PrintTooLong,
+    PrintTooLong = 19,
     // the file is longer than 16,384 bytes
-    FileTooLong,
+    FileTooLong = 20,
 }
 
 impl TextFault {
@@ -21,12 +21,6 @@ impl TextFault {
     pub fn number(self) -> u32
         ensures { result ≡ number_of self }
     {
-        match self {
-            TextFault::Malformed => 1,
-            TextFault::Misplaced => 2,
-            TextFault::NotANumber => 3,
-            TextFault::PrintTooLong => 19,
-            TextFault::FileTooLong => 20,
-        }
+        self as u32
     }
 }

@@ -1,5 +1,5 @@
 // One line of a sheet file.
-ghost use Rattle.std.specs.Prelude.{◌≡◌, ℕ, ◌+◌, ◌-◌, ◌<◌, ◌≤◌, List, ◌∷◌, length, take, drop, MatchOption, MatchResult};
+ghost use Rattle.std.specs.Prelude.{◌≡◌, ℕ, ◌<◌, ◌≤◌, List, [], ◌∷◌, length, drop, MatchOption, MatchResult};
 ghost use Rattle.base.specs.Words.{In};
 ghost use Rattle.lines.specs.Reading.{Parted, NoNumber, Numbered, Next, TextFails};
 
@@ -8,16 +8,14 @@ use crate::fault::TextFault;
 use crate::form::{Form, Line};
 use crate::number::read_number;
 use crate::shape::shape_of;
-use crate::stand::{may_stand, opening_length};
+use crate::stand::may_stand;
 
-// The end of the field that stands behind the comma at `at`.
-fn field_end(fields: &[u8], at: usize) -> usize
-    requires { at < length fields.now }
-    ensures within { (at < result) × (result ≤ length fields.now) }
-    ensures cut { (f : List ℕ) (others : List (List ℕ)) → Parted (drop at fields.now) (f ∷ others) → (take (result - (at + 1)) (drop (at + 1) fields.now) ≡ f) × Parted (drop result fields.now) others }
+// The first of the fields, each behind a comma, and the others.
+fn first_field(fields: &[u8]) -> Option<(&[u8], &[u8])>
+    ensures { (parts : List (List ℕ)) → Parted fields.now parts → MatchOption result (parts ≡ []) (λ x. (others : List (List ℕ)) × (parts ≡ x.0.now ∷ others) × Parted x.1.now others) }
 {
-    let from = at + 1;
-    from + find(&fields[from..], b',')
+    let (_, behind) = fields.split_first()?;
+    Some(behind.split_at(find(behind, b',').unwrap_or(behind.len())))
 }
 
 // The numbers of at most four fields, each behind a comma, and zeros behind them; none where a field is no number.
@@ -25,20 +23,19 @@ fn read_numbers(fields: &[u8]) -> Option<[u32; 4]>
     ensures { (parts : List (List ℕ)) → Parted fields.now parts → length parts ≤ 4 → MatchOption result ((f : List ℕ) × In f parts × NoNumber f) (Numbered parts) }
 {
     let mut numbers = [0; 4];
-    let mut at = 0;
-    for i in 0..4 {
-        if at >= fields.len() {
-            return Some(numbers);
-        }
-        let end = field_end(fields, at);
-        numbers[i] = read_number(&fields[at + 1..end])?;
-        at = end;
+    let mut rest = fields;
+    for number in &mut numbers {
+        let Some((field, others)) = first_field(rest) else {
+            break;
+        };
+        *number = read_number(field)?;
+        rest = others;
     }
     Some(numbers)
 }
 
 // A line that was read, and how many bytes it takes with its end.
-#[derive(Clone, Copy)]
+#[derive(Clone, Copy, PartialEq, Eq, Debug)]
 pub struct Found {
     pub line: Line,
     pub length: usize,
@@ -48,19 +45,12 @@ pub struct Found {
 pub fn read_line(rest: &[u8], last: Option<Form>, users: usize) -> Result<Found, TextFault>
     ensures { MatchResult result (λ x. (0 < x.length) × (x.length ≤ length rest.now) × Next last users rest.now x.line (drop x.length rest.now)) (TextFails last users rest.now) }
 {
-    let end = find(rest, b'\n');
-    if end >= rest.len() {
-        return Err(TextFault::Malformed);
-    }
-    let Some(form) = shape_of(&rest[0..end]) else {
-        return Err(TextFault::Malformed);
-    };
+    let end = find(rest, b'\n').ok_or(TextFault::Malformed)?;
+    let (form, fields) = shape_of(&rest[..end]).ok_or(TextFault::Malformed)?;
     if !may_stand(last, users, form) {
         return Err(TextFault::Misplaced);
     }
-    let Some(numbers) = read_numbers(&rest[opening_length(form)..end]) else {
-        return Err(TextFault::NotANumber);
-    };
+    let numbers = read_numbers(fields).ok_or(TextFault::NotANumber)?;
     let line = Line { form, numbers };
     let length = end + 1;
     Ok(Found { line, length })

@@ -1,76 +1,23 @@
 // Where a line may stand.
-ghost use Rattle.std.specs.Prelude.{◌≡◌, ◌≤◌, T, length};
+ghost use Rattle.std.specs.Prelude.{T};
 ghost use Rattle.base.specs.Words.{Iff};
-ghost use Rattle.lines.specs.Forms.{opening, arity as arity_of, section as section_of, OfTable, After, May};
+ghost use Rattle.lines.specs.Forms.{After, May};
 
-use crate::form::{AxiomForm, Form, KindForm, LogicForm};
+use crate::form::{Form, Section};
 
-// How many numbers a line of the form has.
-pub(crate) fn arity(form: Form) -> usize
-    ensures is { result ≡ arity_of form }
-    ensures few { result ≤ 4 }
-{
-    match form {
-        Form::Kind(KindForm::House) => 0,
-        Form::Kind(_) => 1,
-        Form::Pair => 2,
-        Form::Logic(LogicForm::El) => 2,
-        Form::Logic(LogicForm::Links) => 1,
-        Form::Axiom(AxiomForm::Lies) => 3,
-        Form::Axiom(AxiomForm::Link) => 3,
-        Form::Axiom(_) => 4,
-        Form::User => 1,
-        Form::Goal => 2,
-    }
-}
-
-// How many bytes the letter takes, with the word of a kind or a logic.
-pub(crate) fn opening_length(form: Form) -> usize
-    ensures { result ≡ length (opening form) }
-{
-    match form {
-        Form::Kind(KindForm::Sets) => 6,
-        Form::Kind(_) => 7,
-        Form::Logic(LogicForm::El) => 4,
-        Form::Logic(LogicForm::Links) => 7,
-        _ => 1,
-    }
-}
-
-// The place of the form among the sections of a file.
-fn section(form: Form) -> u8
-    ensures { result ≡ section_of form }
-{
-    match form {
-        Form::Kind(_) => 0,
-        Form::Pair => 1,
-        Form::Logic(_) => 2,
-        Form::Axiom(_) => 3,
-        Form::User => 4,
-        Form::Goal => 5,
-    }
-}
-
-fn of_table(form: Form) -> bool
-    ensures { Iff (T result) (OfTable form) }
-{
-    match form {
-        Form::Kind(KindForm::Table) => true,
-        Form::Pair => true,
-        _ => false,
-    }
-}
+// The most lines that name users.
+const MOST_USERS: usize = 16;
 
 // May a line of the form come right after one of the form `last`?
 fn comes_after(last: Form, form: Form) -> bool
     ensures { Iff (T result) (After last form) }
 {
-    let from = section(last);
-    let to = section(form);
-    if from < 2 {
-        to == 2 || to == 1 && of_table(last)
+    let from = last.section();
+    let to = form.section();
+    if from < Section::Logic {
+        to == Section::Logic || to == Section::Pairs && last.is_of_table()
     } else {
-        to >= 3 && from <= to
+        to >= Section::Axioms && from <= to
     }
 }
 
@@ -78,8 +25,11 @@ fn comes_after(last: Form, form: Form) -> bool
 pub(crate) fn may_stand(last: Option<Form>, users: usize, form: Form) -> bool
     ensures { Iff (T result) (May last users form) }
 {
+    let section = form.section();
     match last {
-        None => section(form) == 0,
-        Some(before) => comes_after(before, form) && (section(form) != 4 || users < 16),
+        None => section == Section::Kind,
+        Some(before) => {
+            comes_after(before, form) && (section != Section::Users || users < MOST_USERS)
+        }
     }
 }

@@ -1,53 +1,29 @@
-use Rattle.std.proofs.Common.{◌≡◌, ℕ, ◌-◌, List, ◌++◌, length, take, drop, sym, ap, ◌∙◌, subst, arith}
-use Rattle.std.proofs.lemmas.List.{append_cancel_left, take_rest, drop_at}
+use Rattle.std.proofs.Common.{◌≡◌, ℕ, ◌≤◌, Bool, true, false, eqb, List, ◌++◌, length, MatchOption, sym, refl, ap, ◌∙◌, subst, eqb-true}
+use Rattle.std.specs.Borrow.{Bor}
+use Rattle.std.specs.Bool.{then_some}
+use Rattle.std.proofs.lemmas.List.{append_cancel_left}
+use borrow.Author.Tests.{eqb-false}
 use Rattle.lines.specs.declared.form.Form.{Form}
 use Rattle.lines.specs.Forms.{opening, arity}
 use Rattle.lines.specs.Reading.{Parted, Shaped}
 use Rattle.lines.proofs.Fields.{count_parted}
-use Rattle.lines.proofs.Openings.{same_opening}
+use Rattle.lines.proofs.Openings.{same_opening, few_numbers}
 use Rattle.lines.proofs.shape.shape_of.Goals as goal
 
--- what stands behind the opening
-behind : (line : List ℕ) (f : Form) (rest : List ℕ) (k : ℕ) → line ≡ opening f ++ rest → k ≡ length (opening f) → take (length line - k) (drop k line) ≡ rest
-behind line f rest k e is = take_rest line k ∙ ap (drop k) e ∙ drop_at (opening f) rest k (sym is)
+-- the count of the fields decides whether the line has the form's shape, and it has no other
+module _ (line : List ℕ) (f : Form) (rest : Bor (List ℕ)) (opened : line ≡ opening f ++ rest.now) (fields : List (List ℕ)) (parted : Parted rest.now fields) where
+  decided : (enough : Bool) → eqb (length fields) (arity f) ≡ enough
+      → MatchOption {T = Form × Bor (List ℕ)} (then_some enough (f, rest)) ((g : Form) (others : List (List ℕ)) → Shaped line g others → ⊥) (λ x. (fs : List (List ℕ)) × Shaped line x.0 fs × Parted x.1.now fs × (length fs ≤ 4))
+  decided true same =
+      let count = eqb-true (length fields) (arity f) same in
+      (fields, record { rest = rest.now; opened = opened; parted = parted; count = count }, parted, subst (λ (n : ℕ). n ≤ 4) (sym count) (few_numbers f))
+  decided false other = λ g others s.
+      let same : g ≡ f = same_opening g f s.rest rest.now (sym s.opened ∙ opened) in
+      let tail : s.rest ≡ rest.now = append_cancel_left (opening f) s.rest rest.now (ap (λ (h : Form). opening h ++ s.rest) (sym same) ∙ sym s.opened ∙ opened) in
+      eqb-false (length fields) (arity f) other
+      (sym (count_parted rest.now fields parted) ∙ count_parted rest.now others (subst (λ (bs : List ℕ). Parted bs others) tail s.parted) ∙ s.count ∙ ap arity same)
 
--- another form and its fields are this form, and fields of what stands behind its opening
-same_shape : (line : List ℕ) (f : Form) (rest : List ℕ) → line ≡ opening f ++ rest → (g : Form) (fields : List (List ℕ)) → Shaped line g fields → (g ≡ f) × Parted rest fields
-same_shape line f rest e g fields s =
-    let same : g ≡ f = same_opening g f s.rest rest (sym s.opened ∙ e) in
-    let tail : s.rest ≡ rest = append_cancel_left (opening f) s.rest rest (ap (λ (h : Form). opening h ++ s.rest) (sym same) ∙ sym s.opened ∙ e) in
-    (same, subst (λ (bs : List ℕ). Parted bs fields) tail s.parted)
-
-pub returns-in_err-fields : goal.returns-in_err-fields
-returns-in_err-fields c =
-    let line = c.args.line.now in
-    let f = c.in_ok-form.form in
-    let (rest, e) = c.in_ok-form.ensures in
-    rw c.from_residual-in_err-fields.ensures (λ g fields s.
-    c.in_err-fields.ensures fields (subst (λ (bs : List ℕ). Parted bs fields) (sym (behind line f rest c.opening_length.result e c.opening_length.ensures)) (same_shape line f rest e g fields s).1))
-
-pub returns-then-fields-arity : goal.returns-then-fields-arity
-returns-then-fields-arity c =
-    let line = c.args.line.now in
-    let f = c.in_ok-form.form in
-    let (rest, e) = c.in_ok-form.ensures in
-    let (fields, parted, count) = c.in_ok-fields.ensures in (
-      fields,
-      record {
-        rest = rest;
-        opened = e;
-        parted = subst (λ (bs : List ℕ). Parted bs fields) (behind line f rest c.opening_length.result e c.opening_length.ensures) parted;
-        count = count ∙ c.if-fields-arity.true ∙ c.arity.ensures.is;
-      },
-      omega (arith, count, c.if-fields-arity.true, c.arity.ensures.few),
-    )
-
-pub returns-else-fields-arity : goal.returns-else-fields-arity
-returns-else-fields-arity c = λ g others s.
-    let line = c.args.line.now in
-    let f = c.in_ok-form.form in
-    let (rest, e) = c.in_ok-form.ensures in
-    let (fields, parted, count) = c.in_ok-fields.ensures in
-    let back : take (length line - c.opening_length.result) (drop c.opening_length.result line) ≡ rest = behind line f rest c.opening_length.result e c.opening_length.ensures in
-    let (same, other) = same_shape line f rest e g others s in
-    c.if-fields-arity.false (sym count ∙ sym (count_parted rest fields (subst (λ (bs : List ℕ). Parted bs fields) back parted)) ∙ count_parted rest others other ∙ s.count ∙ ap arity same ∙ sym c.arity.ensures.is)
+pub returns : goal.returns
+returns c =
+    let (fields, parted, count) = c.in_ok-count_fields.ensures in
+    rw c.then_some.ensures (decided c.args.line.now c.in_ok-form.form c.in_ok-form.fields c.in_ok-form.ensures fields parted _ (rw (count, sym c.arity.ensures) refl))
