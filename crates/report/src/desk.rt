@@ -4,7 +4,7 @@ ghost use Rattle.lines.specs.declared.form.Form.TheVariants.{Axiom, User, Goal a
 ghost use Rattle.lines.specs.declared.form.Line.{Line as AnyLine};
 ghost use Rattle.lines.specs.Forms.{section};
 ghost use Rattle.report.specs.Checks.{user_count};
-ghost use Rattle.report.specs.Meaning.{at, form_number as number_of, entry};
+ghost use Rattle.report.specs.Meaning.{at, entry};
 ghost use Rattle.report.specs.Stands.{Opened, Keeping, Steps, Shows, Sighted, LinePrinted};
 
 use crate::any::{AnyKind, AnyLogic};
@@ -25,26 +25,13 @@ pub struct Desk {
     users: ArrayVec<u32, 16>,
 }
 
-// The form of an axiom, by number.
-fn form_number(form: AxiomForm) -> u16
-    ensures { result ≡ number_of form }
-{
-    match form {
-        AxiomForm::Lies => 1,
-        AxiomForm::Both => 2,
-        AxiomForm::Partner => 3,
-        AxiomForm::Source => 4,
-        AxiomForm::Link => 5,
-    }
-}
-
 // The record of an axiom line; none where a number of it has more than 16 bits.
 fn record_of(form: AxiomForm, line: &Line) -> Option<Record>
     ensures { MatchOption result ((65535 < at line.now 1) ⊎ ((65535 < at line.now 2) ⊎ (65535 < at line.now 3))) (λ x. x ≡ entry form line.now) }
 {
     let [_, a, b, c] = line.numbers;
     Some(Record {
-        form: form_number(form),
+        form: form as u16,
         a: u16::try_from(a).ok()?,
         b: u16::try_from(b).ok()?,
         c: u16::try_from(c).ok()?,

@@ -1,6 +1,5 @@
 // A whole file, from its first line to its last.
-ghost use Rattle.std.specs.Prelude.{◌≡◌, ℕ, ◌+◌, ◌<◌, ◌≤◌, T, List, [], ◌∷◌, length, MatchResult, ◌≢◌};
-ghost use Rattle.base.specs.Words.{Iff};
+ghost use Rattle.std.specs.Prelude.{◌≡◌, ℕ, ◌+◌, ◌<◌, ◌≤◌, List, [], ◌∷◌, length, MatchResult, ◌≢◌};
 ghost use Rattle.lines.specs.declared.form.Line.{Line as AnyLine};
 ghost use Rattle.lines.specs.declared.form.Form.TheVariants.{Kind as KindLine};
 ghost use Rattle.lines.specs.Forms.{section};
@@ -106,19 +105,12 @@ fn read_table(reader: &mut Reader<'_>, first: Found) -> Result<Table, Cause>
     Ok(table)
 }
 
-// Is it the form of a K line that names a table?
-fn names_table(form: Form) -> bool
-    ensures { Iff (T result) (form ≡ KindLine TableForm) }
-{
-    matches!(form, Form::Kind(KindForm::Table))
-}
-
 // The label kind of a file.
 fn read_kind(reader: &mut Reader<'_>) -> Result<AnyKind, Cause>
     ensures { (p w : ℕ) (file : List ℕ) → Stands p w file reader.old [] → MatchResult result (λ k. (ls : List AnyLine) × KindRead p w file reader.new ls k) (Refuses p w file (reader.new.lines + 1)) }
 {
     let found = reader.next_line()?;
-    if names_table(found.line.form) {
+    if found.line.form == Form::Kind(KindForm::Table) {
         return Ok(AnyKind::Table(read_table(reader, found)?));
     }
     let kind = plain_kind(&found.line)?;
