@@ -7,7 +7,7 @@ use Rattle.lines.specs.declared.form.Line.{Line}
 use Rattle.lines.specs.declared.read.Found.{Found}
 use Rattle.lines.specs.Forms.{May, section}
 use Rattle.lines.specs.Lines.{body, text, written, lines_of, last_form}
-use Rattle.report.specs.declared.place.Place.{Place}
+use Rattle.report.specs.declared.reader.Reader.{Reader}
 use Rattle.report.specs.Meaning.{at, two, kind_by, kind_of, first_logic, logic_of, calls, booked, booked_by, book_of, users_of}
 use Rattle.report.specs.Checks.{user_count, line_checks, Passes, Good}
 use Rattle.report.specs.Report.{LinePrints, Prints}
@@ -60,7 +60,7 @@ pub users_of_same : (xs : List Line) (x : Line) → (section x.form ≡ 4 → �
 users_of_same xs x other = ap (map (λ y. at y 0)) (lines_of_same 4 xs x other)
 
 module _ (p w : ℕ) where
-  pub good_more : (before xs : List Line) (x : Line) (behind : List ℕ) → Good p w before xs (text x ++ behind) → Passes p w (before ++ xs) x behind → Good p w before (xs ++ (x ∷ [])) behind
+  good_more : (before xs : List Line) (x : Line) (behind : List ℕ) → Good p w before xs (text x ++ behind) → Passes p w (before ++ xs) x behind → Good p w before (xs ++ (x ∷ [])) behind
   good_more before [] x behind good passes =
       (subst (λ (ls : List Line). Passes p w ls x behind) (append-nil before) passes, tt)
   good_more before (y ∷ ys) x behind (first, rest) passes =
@@ -81,29 +81,27 @@ module _ (p w : ℕ) where
     ap (λ (l : List ℕ). l ++ s) e ∙ append_assoc a r s,
   )
 
-  -- a line that is next passes where none of its checks fails
-  pub passes_next : (file : List ℕ) (place : Place) (before : List Line) → Stands p w file place before → (x : Found) → Gets file place x
-      → NoneOf (line_checks p w before x.line (drop (place.at + x.length) file)) → Passes p w before x.line (drop (place.at + x.length) file)
-  passes_next file place before stands x gets none =
+-- a line that is found behind good lines, and passes its checks
+module _ {p w : ℕ} {file : List ℕ} {reader : Reader} {before : List Line} (stands : Stands p w file reader before) {x : Found} (gets : Gets reader x) (none : NoneOf (line_checks p w before x.line (drop x.length reader.rest.now))) where
+  passes_next : Passes p w before x.line (drop x.length reader.rest.now)
+  passes_next =
       record {
         whole = gets.next.whole;
-        may = subst (λ (n : ℕ). May (last_form before) n x.line.form) stands.users (subst (λ (f : Option Form). May f place.users x.line.form) stands.last gets.next.may);
+        may = subst (λ (n : ℕ). May (last_form before) n x.line.form) stands.users (subst (λ (f : Option Form). May f reader.users x.line.form) stands.last gets.next.may);
         none = none;
       }
 
-  pub stands_more : (file : List ℕ) (place : Place) (before : List Line) → Stands p w file place before → (x : Found) → Gets file place x
-      → NoneOf (line_checks p w before x.line (drop (place.at + x.length) file)) → (place' : Place) → Advanced place x place' → Stands p w file place' (before ++ (x.line ∷ []))
-  stands_more file place before stands x gets none place' moved =
+  pub stands_more : {reader' : Reader} → Advanced reader x reader' → Stands p w file reader' (before ++ (x.line ∷ []))
+  stands_more {reader'} moved =
       let y = x.line in
-      let rest : List ℕ = drop (place.at + x.length) file in
-      let on : rest ≡ drop place'.at file = ap (λ (n : ℕ). drop n file) (sym moved.at) in
-      let split : drop place.at file ≡ text y ++ rest = gets.next.split in
-      let good : Good p w [] (before ++ (y ∷ [])) rest = good_more [] before y rest (subst (Good p w [] before) split stands.good) (passes_next file place before stands x gets none) in
-      let bytes : file ≡ written (before ++ (y ∷ [])) ++ rest =
-      stands.bytes ∙ ap (λ (l : List ℕ). written before ++ l) split ∙ sym (append_assoc (written before) (text y) rest) ∙ ap (λ (l : List ℕ). (written before ++ l) ++ rest) (sym (append-nil (text y))) ∙ ap (λ (l : List ℕ). l ++ rest) (sym (written_append before (y ∷ []))) in
+      let behind : List ℕ = drop x.length reader.rest.now in
+      let split : reader.rest.now ≡ text y ++ behind = gets.next.split in
+      let good : Good p w [] (before ++ (y ∷ [])) behind = good_more p w [] before y behind (subst (Good p w [] before) split stands.good) passes_next in
+      let bytes : file ≡ written (before ++ (y ∷ [])) ++ behind =
+      stands.bytes ∙ ap (λ (l : List ℕ). written before ++ l) split ∙ sym (append_assoc (written before) (text y) behind) ∙ ap (λ (l : List ℕ). (written before ++ l) ++ behind) (sym (append-nil (text y))) ∙ ap (λ (l : List ℕ). l ++ behind) (sym (written_append before (y ∷ []))) in
       record {
-        bytes = subst (λ (l : List ℕ). file ≡ written (before ++ (y ∷ [])) ++ l) on bytes;
-        good = subst (Good p w [] (before ++ (y ∷ []))) on good;
+        bytes = subst (λ (l : List ℕ). file ≡ written (before ++ (y ∷ [])) ++ l) (sym moved.rest) bytes;
+        good = subst (Good p w [] (before ++ (y ∷ []))) (sym moved.rest) good;
         lines = moved.lines ∙ ap (λ (n : ℕ). n + 1) stands.lines ∙ sym (length-append before (y ∷ []));
         last = moved.last ∙ sym (last_form_append before y);
         users = moved.users ∙ ap (λ (n : ℕ). n + user_count (y ∷ [])) stands.users ∙ sym (length-append (lines_of 4 before) (lines_of 4 (y ∷ []))) ∙ ap length (sym (lines_of_append 4 before (y ∷ [])));

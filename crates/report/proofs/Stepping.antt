@@ -1,5 +1,5 @@
 -- What a call of the sheet shows of the line that it is made for.
-use Rattle.std.proofs.Common.{◌≡◌, ℕ, ◌<◌, ◌≤◌, List, [], ◌∷◌, ◌++◌, length, Ok, Err, Result, sym, ap, ◌∙◌, subst, ap₂, inl, inr, arith, length-take-le}
+use Rattle.std.proofs.Common.{◌≡◌, ℕ, ◌<◌, ◌≤◌, List, [], ◌∷◌, ◌++◌, length, Ok, Err, Result, sym, ap, ◌∙◌, subst, ap₂, inl, inr, arith}
 use Rattle.std.proofs.lemmas.List.{length-map}
 use Rattle.base.specs.Words.{In}
 use Rattle.base.specs.Checks.{FirstOf, NoneOf}
@@ -11,35 +11,29 @@ use Rattle.logics.specs.El.{el, ElRecord, ElLimits}
 use Rattle.logics.specs.Links.{links}
 use Rattle.logics.specs.declared.Record.{Record}
 use Rattle.engine.specs.Book.{Book, after}
-use Rattle.engine.specs.Law.{checks, FirstOf as SheetFirst, NoneOf as SheetNone, RefusedBy, Accepted, Lawfully, Answered, Next}
-use Rattle.engine.specs.Keeps.{Keeps}
-use Rattle.engine.specs.Obeys.{held, shown}
-use Rattle.engine.specs.declared.table.AxiomTable.{AxiomTable}
-use Rattle.engine.specs.declared.rows.RowTable.{RowTable}
+use Rattle.engine.specs.Law.{checks, RefusedBy, Accepted, Next}
+use Rattle.engine.specs.Obeys.{Holds}
 use Rattle.engine.specs.declared.call.SheetFault.{SheetFault}
 use Rattle.engine.specs.declared.call.Call.{Call}
 use Rattle.engine.specs.declared.call.Call.TheVariants.{Enter}
-use Rattle.engine.specs.declared.call.Answer.{Answer}
-use Rattle.engine.specs.declared.call.Answer.TheVariants.{Refused}
 use Rattle.lines.specs.declared.form.Form.{Form}
 use Rattle.lines.specs.declared.form.Line.{Line}
 use Rattle.lines.specs.Forms.{section}
 use Rattle.lines.specs.Lines.{lines_of}
-use Rattle.report.specs.declared.any.AnyKind.{AnyKind}
 use Rattle.report.specs.declared.any.AnyLogic.{AnyLogic}
 use Rattle.report.specs.declared.any.AnyLogic.TheVariants.{El, Links}
+use Rattle.report.specs.declared.desk.Desk.{Desk}
 use Rattle.report.specs.declared.fault.Cause.{Cause}
 use Rattle.report.specs.declared.fault.Cause.TheVariants.{Sheet}
-use Rattle.report.specs.declared.users.Users.{Users}
 use Rattle.report.specs.Any.{any_kind, any_logic}
 use Rattle.report.specs.Meaning.{at, calls_by, booked, kind_of, logic_by, first_logic, logic_of, book_of, users_of}
 use Rattle.report.specs.Checks.{of_sheet, checks_by, line_checks, user_count}
-use Rattle.report.specs.Stands.{Named, taken, Keeping, Settles}
+use Rattle.report.specs.Stands.{LogicChosen, Named, Keeping, Settles}
 use Rattle.report.proofs.Standing.{lines_of_same, kind_of_same, book_of_more}
 use Rattle.report.proofs.Sames.{label_same}
 
 -- a line's checks and calls are those of its form
-module _ (p w : ℕ) (before : List Line) (x : Line) (behind : List ℕ) (f : Form) (is : x.form ≡ f) where
+module _ (p w : ℕ) (before : List Line) (x : Line) (behind : List ℕ) {f : Form} (is : x.form ≡ f) where
   pub first_by : (c : Cause) → FirstOf (checks_by p w f before x behind) c → FirstOf (line_checks p w before x behind) c
   first_by c first = subst (λ (h : Form). FirstOf (checks_by p w h before x behind) c) (sym is) first
 
@@ -53,44 +47,29 @@ module _ (p w : ℕ) (before : List Line) (x : Line) (behind : List ℕ) (f : Fo
   late_by late = subst (λ (h : Form). 3 ≤ section h) (sym is) late
 
 -- the checks of a call on the sheet are those of its line, each fault within the line's
-module _ (k : LabelOrder) (l : Entailment) (b : Book) where
-  first_in : (cs : List (SheetFault × Type 0)) (f : SheetFault) → SheetFirst k l b cs f → FirstOf (of_sheet cs) (Sheet f)
-  first_in [] f first = first
-  first_in (c ∷ cs) f (inl (holds, is)) = inl (holds, ap (λ (g : SheetFault). Sheet g) is)
-  first_in (c ∷ cs) f (inr (fails, rest)) = inr (fails, first_in cs f rest)
+pub first_in : (cs : List (SheetFault × Type 0)) (f : SheetFault) → FirstOf cs f → FirstOf (of_sheet cs) (Sheet f)
+first_in [] f first = first
+first_in (c ∷ cs) f (inl (holds, is)) = inl (holds, ap (λ (g : SheetFault). Sheet g) is)
+first_in (c ∷ cs) f (inr (fails, rest)) = inr (fails, first_in cs f rest)
 
-  none_in : (cs : List (SheetFault × Type 0)) → SheetNone k l b cs → NoneOf (of_sheet cs)
-  none_in [] none = tt
-  none_in (c ∷ cs) (fails, rest) = (fails, none_in cs rest)
-
-  pub first_of_sheet : (c : Call) (f : SheetFault) → RefusedBy k l b c f → FirstOf (of_sheet (checks k l b c)) (Sheet f)
-  first_of_sheet c f first = first_in (checks k l b c) f first
-
-  pub none_of_sheet : (c : Call) → Accepted k l b c → NoneOf (of_sheet (checks k l b c))
-  none_of_sheet c none = none_in (checks k l b c) none
-
-  -- a call that passes its checks is not refused
-  pub never_refused : (c : Call) (f : SheetFault) → Accepted k l b c → RefusedBy k l b c f → ⊥
-  never_refused c f none first = none_first (of_sheet (checks k l b c)) (Sheet f) (none_of_sheet c none) (first_of_sheet c f first)
+pub none_in : (cs : List (SheetFault × Type 0)) → NoneOf cs → NoneOf (of_sheet cs)
+none_in [] none = tt
+none_in (c ∷ cs) (fails, rest) = (fails, none_in cs rest)
 
 -- the logic is the one that the lines name
-pub named_logic : (l : AnyLogic) (before : List Line) → Named l before → any_logic l ≡ logic_of before
-named_logic (El l) before (x, xs, is, form, concepts, roles) =
-    ap₂ el concepts roles ∙ ap (λ (f : Form). logic_by f (at x 0) (at x 1)) (sym form) ∙ ap first_logic (sym is)
-named_logic (Links l) before (x, xs, is, form, points) =
-    ap links points ∙ ap (λ (f : Form). logic_by f (at x 0) (at x 1)) (sym form) ∙ ap first_logic (sym is)
+chosen_logic : (l : AnyLogic) (x : Line) → LogicChosen x l → any_logic l ≡ logic_by x.form (at x 0) (at x 1)
+chosen_logic (El l) x (form, concepts, roles) = ap₂ el concepts roles ∙ ap (λ (f : Form). logic_by f (at x 0) (at x 1)) (sym form)
+chosen_logic (Links l) x (form, points) = ap links points ∙ ap (λ (f : Form). logic_by f (at x 0) (at x 1)) (sym form)
 
 pub named_some : (l : AnyLogic) (before : List Line) → Named l before → 0 < length (lines_of 2 before)
-named_some (El l) before (x, xs, is, form, concepts, roles) = omega (arith, ap length is)
-named_some (Links l) before (x, xs, is, form, points) = omega (arith, ap length is)
+named_some l before (x, xs, is, chosen) = omega (arith, ap length is)
 
 not_empty : (before : List Line) → 0 < length (lines_of 2 before) → 0 < length before
 not_empty [] some = some
 not_empty (x ∷ xs) some = omega arith
 
 named_more : (l : AnyLogic) (before : List Line) (x : Line) → (section x.form ≡ 2 → ⊥) → Named l before → Named l (before ++ (x ∷ []))
-named_more (El l) before x other (y, ys, is, form, concepts, roles) = (y, ys, lines_of_same 2 before x other ∙ is, form, concepts, roles)
-named_more (Links l) before x other (y, ys, is, form, points) = (y, ys, lines_of_same 2 before x other ∙ is, form, points)
+named_more l before x other (y, ys, is, chosen) = (y, ys, lines_of_same 2 before x other ∙ is, chosen)
 
 -- numbers of a record that is taken have 16 bits
 small_el : (n roles : ℕ) (r : Record) → ElLimits n roles → ElRecord n roles r → (r.a ≤ 65535) × (r.b ≤ 65535) × (r.c ≤ 65535)
@@ -105,19 +84,10 @@ pub taken_small : (l : AnyLogic) (r : Record) → (any_logic l).TakesRecord r �
 taken_small (El l) r taken = small_el l.concepts l.roles r l.limits taken
 taken_small (Links l) r taken = (omega (arith, l.limits, taken.from), omega (arith, l.limits, taken.to), omega (arith, taken.rest))
 
--- a call that is refused is refused by its first check that fails, and one that is not passes them all
-module _ (k : LabelOrder) (l : Entailment) (b : Book) (c : Call) where
-  pub refused_first : (f : SheetFault) → (Answered k l b c (Refused f) → ⊥) → Lawfully k l b c (Refused f) → RefusedBy k l b c f
-  refused_first f never (inl (g, first, is)) = let same : g ≡ f = cc in subst (RefusedBy k l b c) same first
-  refused_first f never (inr (_, answered)) = absurd (never answered)
-
-  pub accepted_none : (x : Answer) → ((f : SheetFault) → x ≡ Refused f → ⊥) → Lawfully k l b c x → Accepted k l b c × Answered k l b c x
-  accepted_none x never (inl (f, _, is)) = absurd (never f is)
-  accepted_none x never (inr done) = done
-
-  pub next_after : (d : Book) → Accepted k l b c → Next k l b c d → d ≡ after c b
-  next_after d none (inl (f, first, _)) = absurd (never_refused k l b c f none first)
-  next_after d none (inr (_, is)) = is
+-- the book after a call that passes its checks
+pub next_after : (k : LabelOrder) (l : Entailment) (b : Book) (c : Call) (d : Book) → Accepted k l b c → Next k l b c d → d ≡ after c b
+next_after k l b c d none (inl (f, first, _)) = absurd (none_first (checks k l b c) f none first)
+next_after k l b c d none (inr (_, is)) = is
 
 -- the checks of enter, by two orders that are the same
 module _ (k h : LabelOrder) (s : Same k h) (l : Entailment) (b : Book) (r : Record) (a : ℕ) where
@@ -130,21 +100,23 @@ module _ (k h : LabelOrder) (s : Same k h) (l : Entailment) (b : Book) (r : Reco
   pub enter_none : Accepted k l b (Enter r a) → Accepted h l b (Enter r a)
   enter_none (some, (takes, (label, rest))) = (some, (takes, ((λ none. label (λ lab. none (label_same k h s a lab))), rest)))
 
+-- the logic of a desk is the one that the lines name
+pub logic_is : {p w : ℕ} {before : List Line} {desk : Desk} → Keeping p w before desk → any_logic desk.sheet.logic ≡ logic_of before
+logic_is {before = before} {desk} keeping = let (x, xs, is, chosen) = keeping.logic in chosen_logic desk.sheet.logic x chosen ∙ ap first_logic (sym is)
+
 -- one line more, behind the logic
-pub keeping_more : (p w : ℕ) (before : List Line) (k : AnyKind) (l : AnyLogic) (axioms : AxiomTable) (rows : RowTable) (us : Users) → Keeping p w before k l axioms rows us
-    → (x : Line) → 3 ≤ section x.form → (k' : AnyKind) → k' ≡ k → (l' : AnyLogic) → l' ≡ l → (axioms' : AxiomTable) (rows' : RowTable)
-    → Keeps (any_kind k) (any_logic l) (book_of p w (before ++ (x ∷ []))) (held axioms') (shown rows') → (us' : Users) → taken us' ≡ users_of (before ++ (x ∷ []))
-    → ((u : ℕ) → In u (users_of (before ++ (x ∷ []))) → JoinPrime (kind_of before) u) → Keeping p w (before ++ (x ∷ [])) k' l' axioms' rows' us'
-keeping_more p w before k l axioms rows us keeping x late k' ke l' le axioms' rows' keeps us' users admitted =
-    let some : 0 < length before = not_empty before (named_some l before keeping.logic) in
+pub keeping_more : {p w : ℕ} {before : List Line} {desk : Desk} → Keeping p w before desk → (x : Line) → 3 ≤ section x.form → (desk' : Desk) → desk'.sheet.kind ≡ desk.sheet.kind → desk'.sheet.logic ≡ desk.sheet.logic
+    → Holds any_kind any_logic desk'.sheet (book_of p w (before ++ (x ∷ []))) → desk'.users.items ≡ users_of (before ++ (x ∷ [])) → ((u : ℕ) → In u (users_of (before ++ (x ∷ []))) → JoinPrime (kind_of before) u)
+    → Keeping p w (before ++ (x ∷ [])) desk'
+keeping_more {before = before} {desk} keeping x late desk' ke le holds users admitted =
+    let some : 0 < length before = not_empty before (named_some desk.sheet.logic before keeping.logic) in
     let same : kind_of (before ++ (x ∷ [])) ≡ kind_of before = kind_of_same before x some (λ e. omega arith) in
     record {
-      kind = subst (λ (h : LabelOrder). Same (any_kind k') h) (sym same) (subst (λ (h : AnyKind). Same (any_kind h) (kind_of before)) (sym ke) keeping.kind);
-      logic = named_more l' before x (λ e. omega arith) (subst (λ (h : AnyLogic). Named h before) (sym le) keeping.logic);
-      book = subst (λ (h : AnyKind). Keeps (any_kind h) (any_logic l') (book_of p w (before ++ (x ∷ []))) (held axioms') (shown rows')) (sym ke)
-          (subst (λ (h : AnyLogic). Keeps (any_kind k) (any_logic h) (book_of p w (before ++ (x ∷ []))) (held axioms') (shown rows')) (sym le) keeps);
+      kind = rw (same, ke) keeping.kind;
+      logic = named_more desk'.sheet.logic before x (λ e. omega arith) (subst (λ (h : AnyLogic). Named h before) (sym le) keeping.logic);
+      book = holds;
       users = users;
-      admitted = λ u i. subst (λ (h : LabelOrder). JoinPrime h u) (sym same) (admitted u i);
+      admitted = λ u i. rw same (admitted u i);
     }
 
 -- with something else that holds
@@ -153,6 +125,5 @@ settles_and cs (Ok _) Done Also (none, done) also = (none, (done, also))
 settles_and cs (Err c) Done Also first also = first
 
 -- as many users as lines name
-pub users_counted : (p w : ℕ) (before : List Line) (k : AnyKind) (l : AnyLogic) (axioms : AxiomTable) (rows : RowTable) (us : Users) → Keeping p w before k l axioms rows us → us.count ≡ user_count before
-users_counted p w before k l axioms rows us keeping =
-    sym (length-take-le us.count us.labels (omega arith)) ∙ ap length keeping.users ∙ length-map (lines_of 4 before) (λ x. at x 0)
+pub users_counted : {p w : ℕ} {before : List Line} {desk : Desk} → Keeping p w before desk → length desk.users.items ≡ user_count before
+users_counted {before = before} keeping = ap length keeping.users ∙ length-map (lines_of 4 before) (λ x. at x 0)

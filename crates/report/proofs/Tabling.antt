@@ -19,15 +19,16 @@ use Rattle.lines.specs.Lines.{numbers_of, body, text, Whole, lines_of}
 use Rattle.lines.proofs.Openings.{pair_opening}
 use Rattle.report.specs.declared.any.AnyKind.{AnyKind}
 use Rattle.report.specs.declared.fault.Cause.TheVariants.{Kind}
-use Rattle.report.specs.declared.place.Place.{Place}
+use Rattle.report.specs.declared.reader.Reader.{Reader}
 use Rattle.report.specs.Any.{any_kind}
 use Rattle.report.specs.Meaning.{at, two, pairs, kind_by, kind_of, book_of}
 use Rattle.report.specs.Checks.{PairNext, table_size, checks_by, line_checks, Refuses}
 use Rattle.report.specs.Report.{Prints}
 use Rattle.report.specs.Stands.{Gets, Stands, Advanced, LogicNext, Quiet, KindRead, TableRead}
-use Rattle.report.proofs.Standing.{lines_of_append, lines_of_same, users_of_same, stands_more}
+use Rattle.report.proofs.Standing.{lines_of_append, lines_of_other, lines_of_same, users_of_same, stands_more}
+use Rattle.report.proofs.Stepping.{first_by, none_by}
 use Rattle.report.proofs.Files.{refused_check}
-use Rattle.report.proofs.Openings.{calm_book, calm_prints}
+use Rattle.report.proofs.Openings.{quiet_none, quiet_more}
 
 pair_first : (bs : List ℕ) → PairNext bs → get_or bs 0 0 ≡ 79
 pair_first [] h = absurd h
@@ -63,20 +64,6 @@ table_section : (f : Form) → OfTable f → section f < 2
 table_section f (inl e) = omega (arith, ap section e)
 table_section f (inr e) = omega (arith, ap section e)
 
--- before any line
-quiet_none : (p w : ℕ) → Quiet p w []
-quiet_none p w = record { none = refl; book = refl; users = refl; prints = refl }
-
--- one line more before the logic
-pub quiet_more : (p w : ℕ) (ls : List Line) (x : Line) → section x.form < 2 → book_of p w (ls ++ (x ∷ [])) ≡ book_of p w ls → Prints p w [] (ls ++ (x ∷ [])) [] → Quiet p w ls → Quiet p w (ls ++ (x ∷ []))
-quiet_more p w ls x early book prints quiet =
-    record {
-      none = lines_of_same 2 ls x (λ e. omega arith) ∙ quiet.none;
-      book = book ∙ quiet.book;
-      users = users_of_same ls x (λ e. omega arith) ∙ quiet.users;
-      prints = prints;
-    }
-
 -- the order of a table's lines
 table_kind : (ls : List Line) (first : Line) (others : List Line) (n : ℕ) → ls ≡ first ∷ others → first.form ≡ KindLine TableForm → at first 0 ≡ n → kind_of ls ≡ table n (pairs others)
 table_kind ls first others n all form size = ap kind_of all ∙ ap₂ (λ (f : Form) (m : ℕ). kind_by f m (pairs others)) form size
@@ -88,9 +75,9 @@ pairs_more ls x is =
     ap (map two) (lines_of_append 1 ls (x ∷ []) ∙ ap (λ (ms : List Line). lines_of 1 ls ++ ms) one) ∙ map-append two (lines_of 1 ls) (x ∷ [])
 
 -- the K line of a table
-pub table_begun : (p w : ℕ) (file : List ℕ) (place : Place) → Stands p w file place [] → (x : Line) → x.form ≡ KindLine TableForm → (labels : ℕ) → at x 0 ≡ labels → TableSize (at x 0) → (rows : List ℕ) → KeepsPairs labels rows []
-    → TableRead p w file place x labels rows []
-table_begun p w file place stands x is labels size sized rows keeps =
+pub table_begun : {p w : ℕ} {file : List ℕ} {reader : Reader} → Stands p w file reader [] → {x : Line} → x.form ≡ KindLine TableForm → {labels : ℕ} → at x 0 ≡ labels → TableSize (at x 0) → {rows : List ℕ} → KeepsPairs labels rows []
+    → TableRead p w file reader x labels rows []
+table_begun {p} {w} stands {x} is size sized keeps =
     record {
       stands = stands;
       first = x;
@@ -100,23 +87,24 @@ table_begun p w file place stands x is labels size sized rows keeps =
       size = size;
       keeps = keeps;
       pair = inl is;
-      passes = λ behind ok. subst (λ (f : Form). NoneOf (checks_by p w f [] x behind)) (sym is) ((λ no. no sized), (ok, tt));
-      fails = λ behind bad. subst (λ (f : Form). FirstOf (checks_by p w f [] x behind) (Kind NoMeetOrJoin)) (sym is) (inr ((λ no. no sized), inl (bad, refl)));
-      quiet = quiet_more p w [] x (omega (arith, ap section is)) (calm_book p w [] x (KindLine TableForm) is refl) (calm_prints p w [] x (KindLine TableForm) is refl refl) (quiet_none p w);
+      passes = λ behind ok. none_by p w [] x behind is ((λ no. no sized), (ok, tt));
+      fails = λ behind bad. first_by p w [] x behind is _ (inr ((λ no. no sized), inl (bad, refl)));
+      none = lines_of_other 2 x (λ two. omega (arith, ap section is));
+      quiet = quiet_more quiet_none x is refl (λ e. omega arith) refl;
     }
 
-module _ (p w : ℕ) (file : List ℕ) (place : Place) (x : Found) (gets : Gets file place x) (labels : ℕ) (rows : List ℕ) (before : List Line) (read : TableRead p w file place x.line labels rows before) where
+module _ {p w : ℕ} {file : List ℕ} {reader : Reader} {x : Found} (gets : Gets reader x) {labels : ℕ} {rows : List ℕ} {before : List Line} (read : TableRead p w file reader x.line labels rows before) where
   behind : List ℕ
-  behind = drop (place.at + x.length) file
+  behind = drop x.length reader.rest.now
 
   order : kind_of (before ++ (x.line ∷ [])) ≡ table labels (pairs read.others)
   order = table_kind (before ++ (x.line ∷ [])) read.first read.others labels read.all read.form read.size
 
   -- the line is good where another pair comes behind it
-  pub stands_on : PairNext (drop (place.at + x.length) file) → (place' : Place) → Advanced place x place' → Stands p w file place' (before ++ (x.line ∷ []))
-  stands_on next place' moved = stands_more p w file place before read.stands x gets (read.passes (drop (place.at + x.length) file) (λ (last, _). last next)) place' moved
+  pub stands_on : PairNext (drop x.length reader.rest.now) → {reader' : Reader} → Advanced reader x reader' → Stands p w file reader' (before ++ (x.line ∷ []))
+  stands_on next moved = stands_more read.stands gets (read.passes (drop x.length reader.rest.now) (λ (last, _). last next)) moved
 
-  module _ (place' : Place) (stands' : Stands p w file place' (before ++ (x.line ∷ []))) (y : Line) (is : y.form ≡ Pair) where
+  module _ (y : Line) (is : y.form ≡ Pair) where
     grown : kind_of ((before ++ (x.line ∷ [])) ++ (y ∷ [])) ≡ table labels (more (pairs read.others) (two y))
     grown =
         table_kind ((before ++ (x.line ∷ [])) ++ (y ∷ [])) read.first (read.others ++ (y ∷ [])) labels (ap (λ (ls : List Line). ls ++ (y ∷ [])) read.all) read.form read.size
@@ -126,54 +114,52 @@ module _ (p w : ℕ) (file : List ℕ) (place : Place) (x : Found) (gets : Gets 
     sized = ap (λ (k : LabelOrder). k.size) order
 
     pub pair_refused : (f : KindFault) → PairRefused labels (pairs read.others) (two y) f → (behind' : List ℕ) → FirstOf (line_checks p w (before ++ (x.line ∷ [])) y behind') (Kind f)
-    pair_refused f (inl (none, same)) behind' =
-        subst (λ (g : Form). FirstOf (checks_by p w g (before ++ (x.line ∷ [])) y behind') (Kind f)) (sym is) (inl ((λ of. none (subst (λ (n : ℕ). OfLabels n (two y)) sized of)), ap (λ (g : KindFault). Kind g) (sym same)))
+    pair_refused f (inl (none, same)) behind' = first_by p w (before ++ (x.line ∷ [])) y behind' is _ (inl ((λ of. none (subst (λ (n : ℕ). OfLabels n (two y)) sized of)), ap (λ (g : KindFault). Kind g) (sym same)))
     pair_refused f (inr (of, looped, same)) behind' =
-        subst (λ (g : Form). FirstOf (checks_by p w g (before ++ (x.line ∷ [])) y behind') (Kind f)) (sym is)
-        (inr ((λ no. no (subst (λ (n : ℕ). OfLabels n (two y)) (sym sized) of)), inl (subst Looped (sym grown) looped, ap (λ (g : KindFault). Kind g) (sym same))))
+        first_by p w (before ++ (x.line ∷ [])) y behind' is _ (inr ((λ no. no (subst (λ (n : ℕ). OfLabels n (two y)) (sym sized) of)), inl (subst Looped (sym grown) looped, ap (λ (g : KindFault). Kind g) (sym same))))
 
-    pub table_more : PairTaken labels (pairs read.others) (two y) → (rows' : List ℕ) → KeepsPairs labels rows' (more (pairs read.others) (two y)) → TableRead p w file place' y labels rows' (before ++ (x.line ∷ []))
-    table_more (of, straight) rows' keeps =
-        let of' : OfLabels (table_size (before ++ (x.line ∷ []))) (two y) = subst (λ (n : ℕ). OfLabels n (two y)) (sym sized) of in
-        let straight' : Looped (kind_of ((before ++ (x.line ∷ [])) ++ (y ∷ []))) → ⊥ = λ looped. straight (subst Looped grown looped) in
+    pub table_more : PairTaken labels (pairs read.others) (two y) → {rows' : List ℕ} → KeepsPairs labels rows' (more (pairs read.others) (two y))
+        → {reader' : Reader} → Stands p w file reader' (before ++ (x.line ∷ [])) → TableRead p w file reader' y labels rows' (before ++ (x.line ∷ []))
+    table_more (of, straight) {rows'} keeps stands' =
+        let ls : List Line = before ++ (x.line ∷ []) in
+        let of' : OfLabels (table_size ls) (two y) = subst (λ (n : ℕ). OfLabels n (two y)) (sym sized) of in
+        let straight' : Looped (kind_of (ls ++ (y ∷ []))) → ⊥ = λ looped. straight (subst Looped grown looped) in
         record {
           stands = stands';
           first = read.first;
           others = read.others ++ (y ∷ []);
-          all = ap (λ (ls : List Line). ls ++ (y ∷ [])) read.all;
+          all = ap (λ (ms : List Line). ms ++ (y ∷ [])) read.all;
           form = read.form;
           size = read.size;
           keeps = subst (KeepsPairs labels rows') (sym (pairs_more read.others y is)) keeps;
           pair = inr is;
-          passes = λ behind' ok. subst (λ (f : Form). NoneOf (checks_by p w f (before ++ (x.line ∷ [])) y behind')) (sym is) ((λ no. no of'), (straight', (ok, tt)));
-          fails = λ behind' bad. subst (λ (f : Form). FirstOf (checks_by p w f (before ++ (x.line ∷ [])) y behind') (Kind NoMeetOrJoin)) (sym is) (inr ((λ no. no of'), inr (straight', inl (bad, refl))));
-          quiet =
-              quiet_more p w (before ++ (x.line ∷ [])) y (omega (arith, ap section is)) (calm_book p w (before ++ (x.line ∷ [])) y Pair is refl)
-              (calm_prints p w (before ++ (x.line ∷ [])) y Pair is refl read.quiet.prints) read.quiet;
+          passes = λ behind' ok. none_by p w ls y behind' is ((λ no. no of'), (straight', (ok, tt)));
+          fails = λ behind' bad. first_by p w ls y behind' is _ (inr ((λ no. no of'), inr (straight', inl (bad, refl))));
+          none = lines_of_same 2 ls y (λ two. omega (arith, ap section is)) ∙ read.none;
+          quiet = quiet_more read.quiet y is refl (λ e. omega arith) refl;
         }
 
   -- the pairs are all there, and lack a meet or a join
-  pub table_lacks : (PairNext (drop (place.at + x.length) file) → ⊥) → Lacking (table labels (pairs read.others)) → Refuses p w file (place.lines + 1) (Kind NoMeetOrJoin)
-  table_lacks last lacking =
-      refused_check p w file place before read.stands x gets (Kind NoMeetOrJoin) (read.fails (drop (place.at + x.length) file) (last, subst Lacking (sym order) lacking))
+  pub table_lacks : (PairNext (drop x.length reader.rest.now) → ⊥) → Lacking (table labels (pairs read.others)) → Refuses p w file (reader.lines + 1) (Kind NoMeetOrJoin)
+  table_lacks last lacking = refused_check read.stands gets (read.fails (drop x.length reader.rest.now) (last, subst Lacking (sym order) lacking))
 
   -- or lack none
-  pub table_read : (PairNext (drop (place.at + x.length) file) → ⊥) → (Lacking (table labels (pairs read.others)) → ⊥) → (k : AnyKind) → Same (any_kind k) (table labels (pairs read.others))
-      → (place' : Place) → Advanced place x place' → KindRead p w file place' (before ++ (x.line ∷ [])) k
-  table_read last full k same place' moved =
-      let on : drop place'.at file ≡ drop (place.at + x.length) file = ap (λ (n : ℕ). drop n file) moved.at in
-      let next : LogicNext file place' = λ y behind' goes.
-      let (after, _) = subst (λ (f : Option Form). May f place'.users y.form) moved.last goes.may in
+  pub table_read : (PairNext (drop x.length reader.rest.now) → ⊥) → (Lacking (table labels (pairs read.others)) → ⊥) → {k : AnyKind} → Same (any_kind k) (table labels (pairs read.others))
+      → {reader' : Reader} → Advanced reader x reader' → KindRead p w file reader' (before ++ (x.line ∷ [])) k
+  table_read last full {k} same {reader'} moved =
+      let next : LogicNext reader' = λ y behind' goes.
+      let (after, _) = subst (λ (f : Option Form). May f reader'.users y.form) moved.last goes.may in
       elim after [
         | inl (_, inl two) ↦ two
-        | inl (_, inr (one, _)) ↦ absurd (last (subst PairNext (sym goes.split ∙ on) (pair_text y behind' goes.whole (pair_section y.form one))))
+        | inl (_, inr (one, _)) ↦ absurd (last (subst PairNext (sym goes.split ∙ moved.rest) (pair_text y behind' goes.whole (pair_section y.form one))))
         | inr (late, _, _) ↦ absurd (omega (arith, table_section x.line.form read.pair))
       ] in
       record {
-        stands = stands_more p w file place before read.stands x gets (read.passes (drop (place.at + x.length) file) (λ (_, lacking). full (subst Lacking order lacking))) place' moved;
+        stands = stands_more read.stands gets (read.passes (drop x.length reader.rest.now) (λ (_, lacking). full (subst Lacking order lacking))) moved;
         kind = subst (λ (h : LabelOrder). Same (any_kind k) h) (sym order) same;
         some = omega (arith, ap length read.all);
         next = next;
+        none = read.none;
         quiet = read.quiet;
       }
 
@@ -186,17 +172,17 @@ kind_section User e = absurd (omega arith)
 kind_section Goal e = absurd (omega arith)
 
 -- the first line names a kind
-pub first_kind : (p w : ℕ) (file : List ℕ) (place : Place) → Stands p w file place [] → (x : Found) → Gets file place x → section x.line.form ≡ 0
-first_kind p w file place stands x gets = subst (λ (f : Option Form). May f place.users x.line.form) stands.last gets.next.may
+pub first_kind : {p w : ℕ} {file : List ℕ} {reader : Reader} → Stands p w file reader [] → {x : Found} → Gets reader x → section x.line.form ≡ 0
+first_kind {reader = reader} stands {x} gets = subst (λ (f : Option Form). May f reader.users x.line.form) stands.last gets.next.may
 
 -- a kind that is no table is read
-pub plain_read : (p w : ℕ) (file : List ℕ) (place : Place) → Stands p w file place [] → (x : Found) → Gets file place x → (x.line.form ≡ KindLine TableForm → ⊥) → (k : AnyKind) → Same (any_kind k) (kind_of (x.line ∷ []))
-    → NoneOf (line_checks p w [] x.line (drop (place.at + x.length) file)) → (place' : Place) → Advanced place x place' → KindRead p w file place' (x.line ∷ []) k
-plain_read p w file place stands x gets plain k same none place' moved =
-    let zero : section x.line.form ≡ 0 = first_kind p w file place stands x gets in
+pub plain_read : {p w : ℕ} {file : List ℕ} {reader : Reader} → Stands p w file reader [] → {x : Found} → Gets reader x → (x.line.form ≡ KindLine TableForm → ⊥) → {k : AnyKind} → Same (any_kind k) (kind_of (x.line ∷ []))
+    → NoneOf (line_checks p w [] x.line (drop x.length reader.rest.now)) → {reader' : Reader} → Advanced reader x reader' → KindRead p w file reader' (x.line ∷ []) k
+plain_read {p} {w} stands {x} gets plain same none {reader'} moved =
+    let zero : section x.line.form ≡ 0 = first_kind stands gets in
     let (f, is) = kind_section x.line.form zero in
-    let next : LogicNext file place' = λ y behind goes.
-    let (after, _) = subst (λ (h : Option Form). May h place'.users y.form) moved.last goes.may in
+    let next : LogicNext reader' = λ y behind goes.
+    let (after, _) = subst (λ (h : Option Form). May h reader'.users y.form) moved.last goes.may in
     elim after [
       | inl (_, inl two) ↦ two
       | inl (_, inr (one, inl table)) ↦ absurd (plain table)
@@ -204,9 +190,10 @@ plain_read p w file place stands x gets plain k same none place' moved =
       | inr (late, _, _) ↦ absurd (omega arith)
     ] in
     record {
-      stands = stands_more p w file place [] stands x gets none place' moved;
+      stands = stands_more stands gets none moved;
       kind = same;
       some = omega arith;
       next = next;
-      quiet = quiet_more p w [] x.line (omega arith) (calm_book p w [] x.line (KindLine f) is refl) (calm_prints p w [] x.line (KindLine f) is refl refl) (quiet_none p w);
+      none = lines_of_other 2 x.line (λ two. omega arith);
+      quiet = quiet_more quiet_none x.line is refl (λ e. omega arith) refl;
     }

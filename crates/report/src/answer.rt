@@ -12,9 +12,6 @@ pub fn answer_file(file: &[u8], places: &mut [u64], area: &mut [u8], output: &mu
 {
     match report(file, places, area, output) {
         Ok(length) => length,
-        Err(fault) => match fault_line(fault, output) {
-            Some(length) => length,
-            None => 0,
-        },
+        Err(fault) => fault_line(fault, output).unwrap_or(0),
     }
 }

@@ -16,7 +16,7 @@ pub enum Layer {
 }
 
 // The fault of a lower layer, whole.
-#[derive(Clone, Copy)]
+#[derive(Clone, Copy, PartialEq, Eq, Debug)]
 pub enum Cause {
     Text(TextFault),
     Kind(KindFault),
@@ -25,7 +25,7 @@ pub enum Cause {
 }
 
 // Why a report is refused, and at which line; line 0 is the whole file.
-#[derive(Clone, Copy)]
+#[derive(Clone, Copy, PartialEq, Eq, Debug)]
 pub struct ReportFault {
     pub line: usize,
     pub cause: Cause,

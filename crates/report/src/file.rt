@@ -1,6 +1,5 @@
 // A whole file, from its first line to its last.
-ghost use Rattle.std.specs.Prelude.{◌≡◌, ℕ, ◌+◌, ◌<◌, ◌≤◌, T, List, [], ◌∷◌, length, MatchResult, ◌≢◌};
-ghost use Rattle.base.specs.Words.{Iff};
+ghost use Rattle.std.specs.Prelude.{◌≡◌, ℕ, ◌+◌, ◌<◌, ◌≤◌, List, [], ◌∷◌, length, MatchResult, ◌≢◌};
 ghost use Rattle.lines.specs.declared.form.Line.{Line as AnyLine};
 ghost use Rattle.lines.specs.declared.form.Form.TheVariants.{Kind as KindLine};
 ghost use Rattle.lines.specs.Forms.{section};
@@ -14,12 +13,9 @@ ghost use Rattle.report.specs.Checks.{line_checks, Refuses};
 ghost use Rattle.report.specs.Stands.{Gets, Stands, Opened, Ends, KindRead, LogicChosen};
 
 use crate::any::{AnyKind, AnyLogic};
+use crate::desk::Desk;
 use crate::fault::Cause;
-use crate::place::Place;
-use crate::read::{next_line, pair_next};
-use crate::step::take_line;
-use crate::users::Users;
-use engine::Sheet;
+use crate::reader::Reader;
 use labels::chain::Chain;
 use labels::house::House;
 use labels::sets::Sets;
@@ -31,36 +27,24 @@ use prints::Print;
 use tables::builder::TableBuilder;
 use tables::table::Table;
 
-// The axioms, the users and the goals of a file, and its print.
+// The axioms, the users and the goals of a file.
 fn read_sheet(
     kind: AnyKind,
     logic: AnyLogic,
-    file: &[u8],
-    place: &mut Place,
+    reader: &mut Reader<'_>,
     places: &mut [u64],
     area: &mut [u8],
-    out: &mut [u8],
-) -> Result<Option<usize>, Cause>
-    requires { length file.now ≤ 16384 }
-    ensures { (before : List AnyLine) → Stands (length places.old) (length area.old) file.now place.old before → Opened (length places.old) (length area.old) before kind logic → Ends (length places.old) (length area.old) file.now out.old result place.new.lines out.new }
+    print: &mut Print<'_>,
+) -> Result<(), Cause>
+    ensures { let p = length places.old in let w = length area.old in (file : List ℕ) (before : List AnyLine) → Stands p w file reader.old before → Opened p w before kind logic → Ends p w file print.old result reader.new.lines print.new }
 {
-    let mut sheet = Sheet::open(kind, logic);
-    let mut users = Users::new();
-    let mut print = Print::new();
-    while place.at < file.len() {
-        let found = next_line(file, place)?;
-        take_line(
-            &mut sheet,
-            &mut users,
-            &mut print,
-            &found.line,
-            places,
-            area,
-            out,
-        )?;
-        place.advance(&found);
+    let mut desk = Desk::open(kind, logic);
+    while !reader.is_done() {
+        let found = reader.next_line()?;
+        desk.take_line(&found.line, places, area, print)?;
+        reader.advance(&found);
     }
-    Ok(print.length)
+    Ok(())
 }
 
 // The logic that a G line names.
@@ -78,19 +62,17 @@ fn choose_logic(line: &Line) -> Result<AnyLogic, Cause>
 // The logic of a file, and what stands behind it.
 fn read_logic(
     kind: AnyKind,
-    file: &[u8],
-    place: &mut Place,
+    reader: &mut Reader<'_>,
     places: &mut [u64],
     area: &mut [u8],
-    out: &mut [u8],
-) -> Result<Option<usize>, Cause>
-    requires { length file.now ≤ 16384 }
-    ensures { (before : List AnyLine) → KindRead (length places.old) (length area.old) file.now place.old before kind → Ends (length places.old) (length area.old) file.now out.old result place.new.lines out.new }
+    print: &mut Print<'_>,
+) -> Result<(), Cause>
+    ensures { let p = length places.old in let w = length area.old in (file : List ℕ) (before : List AnyLine) → KindRead p w file reader.old before kind → Ends p w file print.old result reader.new.lines print.new }
 {
-    let found = next_line(file, place)?;
+    let found = reader.next_line()?;
     let logic = choose_logic(&found.line)?;
-    place.advance(&found);
-    read_sheet(kind, logic, file, place, places, area, out)
+    reader.advance(&found);
+    read_sheet(kind, logic, reader, places, area, print)
 }
 
 // The kind that a K line names, where it is no table.
@@ -107,59 +89,44 @@ fn plain_kind(line: &Line) -> Result<AnyKind, Cause>
 }
 
 // The table that a K line begins, with the pairs of the O lines behind it.
-fn read_table(file: &[u8], place: &mut Place, first: Found) -> Result<Table, Cause>
-    requires short { length file.now ≤ 16384 }
-    requires gets { Gets file.now place.old first }
-    ensures { (p w : ℕ) → Stands p w file.now place.old [] → first.line.form ≡ KindLine TableForm → MatchResult result (λ t. (ls : List AnyLine) × KindRead p w file.now place.new ls (TableChosen t)) (Refuses p w file.now (place.new.lines + 1)) }
+fn read_table(reader: &mut Reader<'_>, first: Found) -> Result<Table, Cause>
+    requires { Gets reader.old first }
+    ensures { (p w : ℕ) (file : List ℕ) → Stands p w file reader.old [] → first.line.form ≡ KindLine TableForm → MatchResult result (λ t. (ls : List AnyLine) × KindRead p w file reader.new ls (TableChosen t)) (Refuses p w file (reader.new.lines + 1)) }
 {
     let mut found = first;
     let mut builder = TableBuilder::new(found.line.numbers[0])?;
-    while pair_next(&file[place.at + found.length..]) {
-        place.advance(&found);
-        found = next_line(file, place)?;
+    while reader.pair_behind(&found) {
+        reader.advance(&found);
+        found = reader.next_line()?;
         builder.add(found.line.numbers[0], found.line.numbers[1])?;
     }
     let table = builder.finish()?;
-    place.advance(&found);
+    reader.advance(&found);
     Ok(table)
 }
 
-// Is it the form of a K line that names a table?
-fn names_table(form: Form) -> bool
-    ensures { Iff (T result) (form ≡ KindLine TableForm) }
-{
-    match form {
-        Form::Kind(KindForm::Table) => true,
-        _ => false,
-    }
-}
-
 // The label kind of a file.
-fn read_kind(file: &[u8], place: &mut Place) -> Result<AnyKind, Cause>
-    requires { length file.now ≤ 16384 }
-    ensures { (p w : ℕ) → Stands p w file.now place.old [] → MatchResult result (λ k. (ls : List AnyLine) × KindRead p w file.now place.new ls k) (Refuses p w file.now (place.new.lines + 1)) }
+fn read_kind(reader: &mut Reader<'_>) -> Result<AnyKind, Cause>
+    ensures { (p w : ℕ) (file : List ℕ) → Stands p w file reader.old [] → MatchResult result (λ k. (ls : List AnyLine) × KindRead p w file reader.new ls k) (Refuses p w file (reader.new.lines + 1)) }
 {
-    let found = next_line(file, place)?;
-    if names_table(found.line.form) {
-        let table = read_table(file, place, found)?;
-        return Ok(AnyKind::Table(table));
+    let found = reader.next_line()?;
+    if found.line.form == Form::Kind(KindForm::Table) {
+        return Ok(AnyKind::Table(read_table(reader, found)?));
     }
     let kind = plain_kind(&found.line)?;
-    place.advance(&found);
+    reader.advance(&found);
     Ok(kind)
 }
 
 // Reads and prints a whole file.
 pub(crate) fn read_file(
-    file: &[u8],
-    place: &mut Place,
+    reader: &mut Reader<'_>,
     places: &mut [u64],
     area: &mut [u8],
-    out: &mut [u8],
-) -> Result<Option<usize>, Cause>
-    requires { length file.now ≤ 16384 }
-    ensures { Stands (length places.old) (length area.old) file.now place.old [] → Ends (length places.old) (length area.old) file.now out.old result place.new.lines out.new }
+    print: &mut Print<'_>,
+) -> Result<(), Cause>
+    ensures { let p = length places.old in let w = length area.old in (file : List ℕ) → Stands p w file reader.old [] → Ends p w file print.old result reader.new.lines print.new }
 {
-    let kind = read_kind(file, place)?;
-    read_logic(kind, file, place, places, area, out)
+    let kind = read_kind(reader)?;
+    read_logic(kind, reader, places, area, print)
 }

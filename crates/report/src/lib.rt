@@ -3,14 +3,11 @@
 
 mod answer;
 pub mod any;
+mod desk;
 pub mod fault;
 mod file;
-mod named;
-mod place;
-mod read;
-mod step;
+mod reader;
 mod told;
-mod users;
 mod whole;
 
 pub use answer::answer_file;

@@ -1,6 +1,6 @@
 // What a fault says, and the line that tells it.
 ghost use Rattle.std.specs.Prelude.{◌≡◌};
-ghost use Rattle.prints.specs.Output.{Adds, Printed};
+ghost use Rattle.prints.specs.Output.{Printed};
 ghost use Rattle.report.specs.Fault.{layer as layer_of, layer_of_sheet, number as number_of, name as name_of, told as told_of, fault_line as line_of};
 
 use crate::fault::{Cause, Layer, ReportFault};
@@ -15,6 +15,20 @@ fn sheet_layer(fault: SheetFault) -> Layer
         SheetFault::Kind(_) => Layer::Kind,
         SheetFault::Logic(_) => Layer::Logic,
         _ => Layer::Sheet,
+    }
+}
+
+impl Layer {
+    // The name by which the layer is told.
+    pub(crate) fn name(self) -> &'static [u8]
+        ensures { result.now ≡ name_of self }
+    {
+        match self {
+            Layer::Text => b"text",
+            Layer::Kind => b"kind",
+            Layer::Logic => b"logic",
+            Layer::Sheet => b"sheet",
+        }
     }
 }
 
@@ -53,29 +67,17 @@ impl ReportFault {
     }
 }
 
-// Prints the name of a layer.
-fn put_layer(print: &mut Print, out: &mut [u8], layer: Layer)
-    ensures { Adds (name_of layer) print.old.length out.old print.new.length out.new }
-{
-    match layer {
-        Layer::Text => print.text(out, b"text"),
-        Layer::Kind => print.text(out, b"kind"),
-        Layer::Logic => print.text(out, b"logic"),
-        Layer::Sheet => print.text(out, b"sheet"),
-    }
-}
-
 // Prints the line `F,line,layer,number` of a fault, and answers its length; none where the output is too short for it.
 pub fn fault_line(fault: ReportFault, out: &mut [u8]) -> Option<usize>
     ensures { Printed (line_of fault) out.old result out.new }
 {
-    let mut print = Print::new();
+    let mut print = Print::new(out);
     let (line, layer, number) = fault.told();
-    print.byte(out, b'F');
-    print.after_comma(out, line as u64);
-    print.byte(out, b',');
-    put_layer(&mut print, out, layer);
-    print.after_comma(out, u64::from(number));
-    print.byte(out, b'\n');
+    print.byte(b'F');
+    print.after_comma(line as u64);
+    print.byte(b',');
+    print.text(layer.name());
+    print.after_comma(u64::from(number));
+    print.byte(b'\n');
     print.length
 }

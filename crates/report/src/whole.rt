@@ -7,8 +7,9 @@ ghost use Rattle.report.specs.Stands.{Outcome};
 
 use crate::fault::{Cause, ReportFault};
 use crate::file::read_file;
-use crate::place::Place;
+use crate::reader::Reader;
 use lines::fault::TextFault;
+use prints::Print;
 
 // The most bytes that a file may have.
 const LONGEST_FILE: usize = 16_384;
@@ -20,7 +21,7 @@ fn outcome_of(
     area: &mut [u8],
     output: &mut [u8],
 ) -> Result<usize, ReportFault>
-    ensures { Outcome file.now (length places.old) (length area.old) output.old result output.new }
+    ensures { Outcome (length places.old) (length area.old) file.now output.old result output.new }
 {
     if file.len() > LONGEST_FILE {
         return Err(ReportFault {
@@ -28,21 +29,15 @@ fn outcome_of(
             cause: Cause::Text(TextFault::FileTooLong),
         });
     }
-    let mut place = Place::start();
-    let printed = match read_file(file, &mut place, places, area, output) {
-        Ok(printed) => printed,
-        Err(cause) => {
-            let line = place.lines + 1;
-            return Err(ReportFault { line, cause });
-        }
-    };
-    match printed {
-        Some(length) => Ok(length),
-        None => Err(ReportFault {
-            line: 0,
-            cause: Cause::Text(TextFault::PrintTooLong),
-        }),
-    }
+    let mut reader = Reader::new(file);
+    let mut print = Print::new(output);
+    let read = read_file(&mut reader, places, area, &mut print);
+    let line = reader.lines + 1;
+    read.map_err(|cause| ReportFault { line, cause })?;
+    print.length.ok_or(ReportFault {
+        line: 0,
+        cause: Cause::Text(TextFault::PrintTooLong),
+    })
 }
 
 // Reads a whole sheet file and prints its report into the output; answers the length of the print. A refused report leaves
@@ -60,14 +55,6 @@ pub fn report(
     let outcome = outcome_of(file, places, area, output);
     places.fill(0);
     area.fill(0);
-    match outcome {
-        Ok(length) => {
-            output[length..].fill(0);
-            Ok(length)
-        }
-        Err(fault) => {
-            output.fill(0);
-            Err(fault)
-        }
-    }
+    output[outcome.unwrap_or(0)..].fill(0);
+    outcome
 }

@@ -4,7 +4,7 @@
 
 ghost use Rattle.std.specs.Prelude.{◌<◌, ◌≤◌, length, IfSome};
 
-use anyhow::anyhow;
+use anyhow::Context;
 use report::answer_file;
 use std::io::{Read, Write};
 use std::str::from_utf8;
@@ -15,18 +15,6 @@ struct Case<'a> {
     name: &'a str,
     file: &'a [u8],
     rest: &'a [u8],
-}
-
-// The length of the first line, without its line end; none where no line ends.
-fn line_length(bytes: &[u8]) -> Option<usize>
-    ensures { IfSome result (λ n. n < length bytes.now) }
-{
-    for (i, b) in bytes.iter().enumerate() {
-        if *b == b'\n' {
-            return Some(i);
-        }
-    }
-    None
 }
 
 // The name and the length that a header line `case NAME LENGTH` gives.
@@ -41,7 +29,7 @@ fn read_header(line: &[u8]) -> Option<(&str, usize)> {
 fn next_case(input: &[u8]) -> Option<Case<'_>>
     ensures { IfSome result (λ c. length c.rest.now < length input.now) }
 {
-    let at = line_length(input)?;
+    let at = input.iter().position(|b| *b == b'\n')?;
     let (name, length) = read_header(&input[..at])?;
     let (file, behind) = input[at + 1..].split_at_checked(length)?;
     let rest = behind.strip_prefix(b"\n")?;
@@ -54,12 +42,11 @@ fn print_cases(input: &[u8], out: &mut impl Write) -> anyhow::Result<()> {
     let mut area = [0u8; 16_384];
     let mut output = [0u8; 65_536];
     let mut rest = input;
+    // kept: a case's header says where the next one begins, so no method of slices parts them
     while !rest.is_empty() {
-        let Some(case) = next_case(rest) else {
-            return Err(anyhow!(
-                "a case is a line `case NAME LENGTH`, that many bytes and a line end"
-            ));
-        };
+        let case = next_case(rest).context(
+            "a case is a line `case NAME LENGTH`, that many bytes and a line end",
+        )?;
         let name = case.name;
         writeln!(out, "== {name}")?;
         let printed = answer_file(case.file, &mut places, &mut area, &mut output);

@@ -1,4 +1,4 @@
 use Rattle.report.proofs.file.read_file.Goals as goal
 
 pub returns : goal.returns
-returns c = λ stands. let (ls, read) = c.in_ok-kind.ensures _ _ stands in c.read_logic.ensures ls read
+returns c = λ file stands. let (ls, read) = c.in_ok-kind.ensures _ _ file stands in c.read_logic.ensures file ls read
