@@ -1,5 +1,5 @@
 pub mod Sets
 pub mod Tests
 pub mod Ones
-pub mod Tables
 pub mod Checks
+pub mod Arrays

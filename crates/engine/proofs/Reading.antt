@@ -24,7 +24,7 @@ use Rattle.engine.specs.Rows.{ByGoal, HasRow, NoRow}
 use Rattle.engine.specs.Keeps.{Keeps, answer}
 use Rattle.engine.specs.Obeys.{Obeys}
 use Rattle.engine.proofs.Obeying.{refused, accepted}
-use Rattle.engine.proofs.Rowing.{smaller_ranking}
+use Rattle.engine.specs.GoalOrder.{smaller_ranking}
 use Rattle.engine.proofs.Boundaries.{LabelsTaken}
 use Rattle.engine.proofs.Sight.{sees_by}
 

@@ -1,56 +1,16 @@
 -- The order of rows by their goals, and a row among those of the table.
 use Rattle.std.specs.Result.{result_ok}
-use Rattle.std.proofs.Common.{ap, length-take, Ok, Err, Result, IfErr, MatchResult, MatchOption, ◌≡◌, ℕ, ◌+◌, ◌<◌, ◌≤◌, ◌⊎◌, List, length, get_or, take, subst, ap₂, inl, inr, ⊎_elim, arith, length-take-le}
+use Rattle.std.proofs.Common.{ap, length-take, Ok, Err, Result, IfErr, MatchResult, MatchOption, ◌≡◌, ℕ, ◌+◌, ◌<◌, ◌≤◌, ◌⊎◌, List, length, get_or, take, subst, inl, inr, ⊎_elim, arith, length-take-le}
 use native.Mathlib.Decide.{dec_lt}
 use Rattle.base.specs.Words.{In}
 use Rattle.logics.specs.Entailment.{Goal}
-use Rattle.ordered.specs.Lists.{Ascending, Ranking, Level, Gap, opened}
-use Rattle.ordered.proofs.Lists.{ranking_by, get_or_in}
+use Rattle.ordered.specs.Lists.{Ascending, Level, Gap, opened}
+use Rattle.ordered.proofs.Lists.{get_or_in}
 use Rattle.ordered.proofs.Places.{gap_apart, in_opened, ascending_opened, length_opened}
 use Rattle.engine.specs.declared.page.Row.{Row}
 use Rattle.engine.specs.Law.{Smaller}
+use Rattle.engine.specs.GoalOrder.{smaller_irreflexive, smaller_total, row_ranking}
 use Rattle.engine.specs.Rows.{ByGoal, HasRow, NoRow, OneMore}
-
-smaller_irreflexive : (g : Goal) → Smaller g g → ⊥
-smaller_irreflexive g (inl h) = omega arith
-smaller_irreflexive g (inr (e, h)) = omega arith
-
-smaller_transitive : (g h k : Goal) → Smaller g h → Smaller h k → Smaller g k
-smaller_transitive g h k (inl a) (inl b) = inl (omega arith)
-smaller_transitive g h k (inl a) (inr (f, b)) = inl (omega arith)
-smaller_transitive g h k (inr (e, a)) (inl b) = inl (omega arith)
-smaller_transitive g h k (inr (e, a)) (inr (f, b)) = inr (omega arith, omega arith)
-
--- of two goals that are not one, one is smaller
-smaller_total : (g h : Goal) → (g ≡ h) ⊎ (Smaller g h ⊎ Smaller h g)
-smaller_total g h =
-    elim (dec_lt g.0 h.0) [
-      | yes lt ↦ inr (inl (inl lt))
-      | no ge ↦ elim (dec_lt h.0 g.0) [
-        | yes gt ↦ inr (inr (inl gt))
-        | no le ↦ elim (dec_lt g.1 h.1) [
-          | yes lt ↦ inr (inl (inr (omega arith, lt)))
-          | no ge' ↦ elim (dec_lt h.1 g.1) [
-            | yes gt ↦ inr (inr (inr (omega arith, gt)))
-            | no le' ↦
-                let first : g.0 ≡ h.0 = omega arith in
-                let second : g.1 ≡ h.1 = omega arith in
-                inl (ap₂ (λ (a b : ℕ). (a, b)) first second)
-          ]
-        ]
-      ]
-    ]
-
-smaller_splits : (g h k : Goal) → Smaller g h → Smaller g k ⊎ Smaller k h
-smaller_splits g h k s =
-    ⊎_elim (λ e. inr (subst (λ (x : Goal). Smaller x h) e s)) (⊎_elim inl (λ t. inr (smaller_transitive k g h t s))) (smaller_total g k)
-
-pub smaller_ranking : Ranking Smaller
-smaller_ranking = record { irreflexive = smaller_irreflexive; transitive = smaller_transitive; splits = smaller_splits }
-
--- the laws of the order of rows
-pub row_ranking : Ranking ByGoal
-row_ranking = ranking_by (λ (r : Row). r.goal) smaller_ranking
 
 -- two rows that are level have one goal
 pub level_goal : (r s : Row) → Level ByGoal r s → r.goal ≡ s.goal

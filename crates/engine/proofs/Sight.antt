@@ -7,6 +7,7 @@ use Rattle.base.specs.Words.{Iff, In}
 use Rattle.base.proofs.Sets.{has_or_not, has_zero, has_ones, and_subset, subset_le, same_set, Gathered, gather_more, gather_skip}
 use Rattle.labels.specs.Order.{LabelOrder, Label, Under, Least, JoinPrime, Lawful}
 use Rattle.logics.specs.Entailment.{Entailment, Goal, Monotone}
+use Rattle.supports.specs.Asked.{Asked}
 use Rattle.supports.specs.Search.{Shrunk, DroppedOne}
 use Rattle.supports.proofs.Yielding.{yields_more}
 use Rattle.supports.proofs.Shrinking.{shrink_one, shrunk_support}
@@ -22,14 +23,18 @@ in_force_small b few v in_force =
     omega (arith, subset_le v (2 ^ 64 - 1) inside)
 
 module _ (l : Entailment) (monotone : Monotone l) (b : Book) (g : Goal) where
+  -- what is asked of the axioms of v
+  abbrev within : ℕ → Asked
+  within v = record { logic = l; records = entries b; all = v; goal = g }
+
   -- no set can be without a part that is shrunk up to n
-  shrinks : (v : ℕ) → Yields l b g v → (n : ℕ) → ((now : ℕ) → Shrunk l (entries b) v g v now n → ⊥) → ⊥
+  shrinks : (v : ℕ) → Yields l b g v → (n : ℕ) → ((now : ℕ) → Shrunk (within v) v now n → ⊥) → ⊥
   shrinks v y zero none = none v (record { inside = λ i h. h; yields = y; needed = λ j lt. absurd (omega arith) })
   shrinks v y (suc n) none = shrinks v y n step
     where
-      step : (now : ℕ) → Shrunk l (entries b) v g v now n → ⊥
+      step : (now : ℕ) → Shrunk (within v) v now n → ⊥
       step now done =
-          let next : (r : ℕ) → DroppedOne l (entries b) v g now n r → ⊥ = λ r one. none r (rw add-one at (shrink_one l monotone (entries b) v g v now n done r one)) in
+          let next : (r : ℕ) → DroppedOne (within v) now n r → ⊥ = λ r one. none r (rw add-one at (shrink_one (within v) monotone v now n done r one)) in
           elim (has_or_not now n) [
             | inl here ↦ next now (inr (refl, λ _ still. next (now - 2 ^ n) (inl (here, refl, still))))
             | inr lacks ↦ next now (inr (refl, λ here. absurd (lacks here)))
@@ -42,7 +47,7 @@ module _ (l : Entailment) (monotone : Monotone l) (b : Book) (g : Goal) where
       shrinks v y 64
       (λ s done.
       let small : s < 2 ^ 64 = omega (arith, subset_le s v done.inside, in_force_small b few v in_force) in
-      let is = shrunk_support l monotone (entries b) v g v s small (λ i h. h) done in
+      let is = shrunk_support (within v) monotone v s small (λ i h. h) done in
       none s (record { in_force = λ i h. in_force i (is.in_force i h); yields = is.yields; minimal = is.minimal }) done.inside)
 
 -- whether some set of a list lies within v
@@ -183,7 +188,7 @@ module _ (k : LabelOrder) (l : Entailment) (laws : Lawful k) (monotone : Monoton
       let (t, support, each) = prime_support u prime ss all v is under in
       let (s, visible) = visible_set k b u laws taken prime.known in
       let inside : Subset t s = λ i h. let (p, at, up) = support.in_force i h in (visible i).1 (p, at, up, each i p h at) in
-      (s, visible, yields_more l monotone (entries b) s g t s inside support.yields)
+      (s, visible, yields_more (within l monotone b g s) monotone t s inside support.yields)
 
   -- who sees the goal is under the boundary, join prime or not
   pub sees_under : length b.pages ≤ 64 → (u : ℕ) → Label k u → (v : ℕ) → LeastAbove k l b g v → Sees k l b u g → Under k u v

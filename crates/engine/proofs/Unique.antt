@@ -13,7 +13,7 @@ use Rattle.engine.specs.Book.{Book}
 use Rattle.engine.specs.Sight.{AllSupports, IsBoundary}
 use Rattle.engine.specs.Law.{RowGoals, Buffers, front, back, SearchLeaves, Leaves, Answered, Lawfully, Next, checks}
 use Rattle.engine.specs.Determined.{Determined}
-use Rattle.engine.proofs.Rowing.{smaller_ranking}
+use Rattle.engine.specs.GoalOrder.{smaller_ranking}
 use Rattle.engine.proofs.Boundaries.{boundary_unique}
 use Rattle.engine.proofs.Supporting.{supports_unique}
 

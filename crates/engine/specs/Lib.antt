@@ -3,6 +3,7 @@ pub mod Book
 pub mod Sight
 pub mod Law
 pub mod Rows
+pub mod GoalOrder
 pub mod Keeps
 pub mod Obeys
 pub mod Makes

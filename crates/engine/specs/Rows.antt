@@ -11,7 +11,7 @@ abbrev pub ByGoal : Row → Row → Type 0
 ByGoal r s = Smaller r.goal s.goal
 
 -- room for 64 rows, of which the first are in use, ascending by goal
-pub record Filled (rows : List Row) (count : ℕ) : Type 0 where
+pub record InUse (rows : List Row) (count : ℕ) : Type 0 where
   pub few : count ≤ 64
   pub long : length rows ≡ 64
   pub ascending : Ascending ByGoal (take count rows)

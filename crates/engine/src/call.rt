@@ -60,7 +60,7 @@ impl From<LogicFault> for SheetFault {
 }
 
 impl SheetFault {
-    // The number by which the refusal is reported.
+    // The number by which the refusal is reported. No discriminants: two faults hold another, whose number is reported.
     pub fn number(self) -> u32
         ensures { result ≡ number_of self }
     {

@@ -54,6 +54,7 @@ pub fn run<K: LabelKind, L: Logic>(
 {
     let mut sheet = Sheet::open(kind, logic);
     let count = calls.len().min(answers.len());
+    // no `zip` with the answers: nothing is known of what is written through an adapter of `iter_mut`
     for (i, call) in calls[..count].iter().enumerate() {
         answers[i] = make(&mut sheet, *call, places, area);
     }

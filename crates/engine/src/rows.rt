@@ -1,25 +1,26 @@
 ghost use Rattle.std.specs.Prelude.{◌≡◌, ◌<◌, ◌≤◌, T, ◌⊎◌, [], length, MatchOption, slice_get};
 ghost use Rattle.base.specs.Words.{Iff, In};
 ghost use Rattle.engine.specs.Rows.{ByGoal, HasRow, NoRow, Put};
-ghost use Rattle.std.proofs.Common.{rules};
+ghost use Rattle.engine.specs.GoalOrder.{row_ranking};
 
 use crate::page::Row;
 use ordered::{Ranked, insert, place_of};
+use std::cmp::Ordering;
 use std::marker::Model;
 
 // Rows by their goals: by the first number, then by the second.
 impl Ranked for Row {
     ghost before = { ByGoal };
 
-    ghost ranking = { Prim.search rules };
+    ghost ranking = { row_ranking };
 
-    fn comes_before(self, other: Row) -> bool {
-        self.goal < other.goal
+    fn rank(self, other: Row) -> Ordering {
+        self.goal.cmp(&other.goal)
     }
 }
 
 // The rows of the published goals, one each, ascending by goal: the first `count` of 64.
-// Kept: an array with a count, since insertion is written once, over slices, for rows and for supports.
+// No `ArrayVec`: insertion is written once, over slices, for rows and for supports.
 #[derive(Drop)]
 pub struct RowTable {
     rows: [Row; 64],
@@ -29,13 +30,13 @@ pub struct RowTable {
 impl Model for RowTable {
     ghost use Rattle.std.specs.Prelude.{List, take};
     ghost use Rattle.engine.specs.declared.page.Row.{Row as AnyRow};
-    ghost use Rattle.engine.specs.Rows.{Filled};
+    ghost use Rattle.engine.specs.Rows.{InUse};
 
     ghost Value = { List AnyRow };
 
     ghost view = { λ t. take t.count t.rows };
 
-    ghost invariant = { λ t. Filled t.rows t.count };
+    ghost invariant = { λ t. InUse t.rows t.count };
 }
 
 impl RowTable {
@@ -92,7 +93,7 @@ impl RowTable {
         ensures { Put self.old row self.new }
     {
         if let Err(place) = place_of(self.rows(), row) {
-            insert(&mut self.rows, self.count, place, row);
+            insert(&mut self.rows, self.count, place, row).unwrap();
             self.count += 1;
         }
     }

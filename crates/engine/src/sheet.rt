@@ -147,6 +147,7 @@ impl<K: LabelKind, L: Logic> Sheet<K, L> {
         take_goal(&self.logic, goal)?;
         check_user(&self.kind, user)?;
         let boundary = self.rows.lookup(goal).ok_or(SheetFault::NotPublished)?;
+        // no `is_some_and`: that the boundary may be absent has a line of its own here
         match boundary {
             None => Ok(false),
             Some(bound) => Ok(self.kind.at_or_below(user, bound)),

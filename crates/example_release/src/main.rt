@@ -7,7 +7,8 @@ use labels::kind::LabelKind;
 use labels::sets::Sets;
 use std::io;
 
-const REGIONS: u32 = 3;
+// The labels of the regions, from region 1 on.
+const REGIONS: [u32; 3] = [1, 2, 4];
 
 // The axioms of the list, each with the regions that it is released to.
 const RELEASES: [(u32, [bool; 3]); 3] = [
@@ -16,17 +17,12 @@ const RELEASES: [(u32, [bool; 3]); 3] = [
     (4, [false, true, false]),
 ];
 
-// The label of one region, counted from 0.
-fn region(k: u32) -> u32 {
-    if k < 32 { 1 << k } else { 0 }
-}
-
 // The label of some regions: the join of the labels of each.
-fn label_of(kind: &Sets, regions: &[bool; 3]) -> u32 {
+fn label_of(kind: &Sets, released: &[bool; 3]) -> u32 {
     let mut label = 0;
-    for k in 0..REGIONS {
-        if regions[k as usize] {
-            label = kind.join(label, region(k));
+    for (region, to_it) in REGIONS.iter().zip(released) {
+        if *to_it {
+            label = kind.join(label, *region);
         }
     }
     label
@@ -34,48 +30,38 @@ fn label_of(kind: &Sets, regions: &[bool; 3]) -> u32 {
 
 // " region 1, region 2": the regions whose label is at or below this one.
 fn print_regions(rt: &impl Print, kind: &Sets, label: u32) -> io::Result<()> {
-    let mut some = false;
-    for k in 0..REGIONS {
-        if kind.at_or_below(region(k), label) {
-            if some {
-                print!(rt; ",")?;
-            }
-            some = true;
-            let number = k + 1;
-            print!(rt; " region {number}")?;
+    let seen = (1u32..)
+        .zip(REGIONS)
+        .filter(|&(_, region)| kind.at_or_below(region, label));
+    for (i, (number, _)) in seen.enumerate() {
+        if i > 0 {
+            print!(rt; ",")?;
         }
+        print!(rt; " region {number}")?;
     }
     Ok(())
 }
 
 // Two labels that show why a user is not admitted: it is at or below their join, and at or below neither.
 fn why_not(kind: &Sets, user: u32) -> Option<(u32, u32)> {
-    for a in 0..kind.top() {
-        if !kind.at_or_below(user, a) {
-            let rest = without(kind, user, a);
-            if !kind.at_or_below(user, rest) && kind.at_or_below(user, kind.join(a, rest)) {
-                return Some((a, rest));
-            }
-        }
-    }
-    None
+    (0..kind.top()).map(|a| (a, without(kind, user, a))).find(|&(a, rest)| {
+        !kind.at_or_below(user, a)
+            && !kind.at_or_below(user, rest)
+            && kind.at_or_below(user, kind.join(a, rest))
+    })
 }
 
 // The join of the regions of a label that another label lacks.
 fn without(kind: &Sets, label: u32, other: u32) -> u32 {
-    let mut rest = 0;
-    for k in 0..REGIONS {
-        if kind.at_or_below(region(k), label) && !kind.at_or_below(region(k), other) {
-            rest = kind.join(rest, region(k));
-        }
-    }
-    rest
+    REGIONS
+        .iter()
+        .filter(|&&region| kind.at_or_below(region, label) && !kind.at_or_below(region, other))
+        .fold(0, |rest, &region| kind.join(rest, region))
 }
 
 fn print_axioms(rt: &impl Print, kind: &Sets) -> io::Result<()> {
-    for release in RELEASES {
-        let (number, regions) = release;
-        let label = label_of(kind, &regions);
+    for (number, released) in RELEASES {
+        let label = label_of(kind, &released);
         print!(rt; "Axiom {number} has label {label} and is released to")?;
         print_regions(rt, kind, label)?;
         println!(rt; ".")?;
@@ -84,14 +70,11 @@ fn print_axioms(rt: &impl Print, kind: &Sets) -> io::Result<()> {
 }
 
 fn print_conclusions(rt: &impl Print, kind: &Sets) -> io::Result<()> {
-    let mut all = kind.top();
-    let mut any = 0;
-    for release in RELEASES {
-        let (_, regions) = release;
-        let label = label_of(kind, &regions);
-        all = kind.meet(all, label);
-        any = kind.join(any, label);
-    }
+    let labels = RELEASES.map(|(_, released)| label_of(kind, &released));
+    let all = labels
+        .iter()
+        .fold(kind.top(), |all, &label| kind.meet(all, label));
+    let any = labels.iter().fold(0, |any, &label| kind.join(any, label));
     print!(rt;
         "A conclusion that needs all three has their meet, label {all}, and may be seen in"
     )?;
@@ -111,12 +94,11 @@ fn print_user(rt: &impl Print, kind: &Sets, user: u32) -> io::Result<()> {
     }
     print_regions(rt, kind, user)?;
     if let Err(fault) = check_user(kind, user) {
-        let number = fault.number();
-        print!(rt; " at once, is refused as a user by {number}")?;
+        print!(rt; " at once, is refused as a user by {}", fault.number())?;
         if let Some((a, b)) = why_not(kind, user) {
-            let join = kind.join(a, b);
             print!(rt;
-                ": it is at or below {join}, the join of {a} and {b}, and at or below neither"
+                ": it is at or below {}, the join of {a} and {b}, and at or below neither",
+                kind.join(a, b)
             )?;
         }
         return println!(rt; ".");
@@ -125,35 +107,35 @@ fn print_user(rt: &impl Print, kind: &Sets, user: u32) -> io::Result<()> {
 }
 
 fn print_refusals(rt: &impl Print, kind: &Sets) -> io::Result<()> {
-    let missing = region(REGIONS);
+    let missing = 1 << REGIONS.len();
     if let Err(fault) = check_label(kind, missing) {
-        let region = REGIONS + 1;
-        let number = fault.number();
         println!(rt;
-            "Region {region} would be label {missing}, which is no label here: it is refused by {number}."
+            "Region {} would be label {missing}, which is no label here: it is refused by {}.",
+            REGIONS.len() + 1,
+            fault.number()
         )?;
     }
     if let Err(fault) = Sets::new(33) {
-        let number = fault.number();
-        println!(rt; "Thirty-three regions are too many: they are refused by {number}.")?;
+        println!(rt;
+            "Thirty-three regions are too many: they are refused by {}.",
+            fault.number()
+        )?;
     }
     Ok(())
 }
 
 fn main(rt: HostRuntime) -> io::Result<()> {
-    let Ok(kind) = Sets::new(REGIONS) else {
-        return println!(rt; "The release list cannot be made.");
-    };
-    let size = kind.size();
-    let top = kind.top();
+    let kind = Sets::new(REGIONS.len() as u32).unwrap();
     println!(rt;
-        "A release list over {REGIONS} regions: {size} labels, from 0, no region, to {top}, every region."
+        "A release list over {} regions: {} labels, from 0, no region, to {}, every region.",
+        REGIONS.len(),
+        kind.size(),
+        kind.top()
     )?;
     print_axioms(&rt, &kind)?;
     print_conclusions(&rt, &kind)?;
-    for user in 0..top {
+    for user in 0..=kind.top() {
         print_user(&rt, &kind, user)?;
     }
-    print_user(&rt, &kind, top)?;
     print_refusals(&rt, &kind)
 }

@@ -1,7 +1,7 @@
 // A small vocabulary of supplies, and what follows from it. Every answer that it prints is asked of the logic el.
 #![tactic(auto)]
 
-use logics::{El, Logic, Record};
+use logics::{El, Form, Logic, Record};
 use std::io;
 
 const NAMES: [&str; 6] = [
@@ -16,37 +16,38 @@ const NAMES: [&str; 6] = [
 // The axioms, and what each says. Role 0 is "holds".
 const AXIOMS: [Record; 5] = [
     Record {
-        form: 1,
+        form: Form::Lies as u16,
         a: 3,
         b: 1,
         c: 0,
     },
     Record {
-        form: 1,
+        form: Form::Lies as u16,
         a: 3,
         b: 2,
         c: 0,
     },
     Record {
-        form: 2,
+        form: Form::Both as u16,
         a: 1,
         b: 2,
         c: 3,
     },
     Record {
-        form: 3,
+        form: Form::Partner as u16,
         a: 4,
         b: 0,
         c: 3,
     },
     Record {
-        form: 4,
+        form: Form::Source as u16,
         a: 0,
         b: 2,
         c: 5,
     },
 ];
 
+// kept: an array beside the axioms, since the logic is asked about a slice of records
 const SAYINGS: [&str; 5] = [
     "Every wax ribbon is a ribbon.",
     "Every wax ribbon is a wax thing.",
@@ -55,8 +56,10 @@ const SAYINGS: [&str; 5] = [
     "What holds a wax thing is a paper printer.",
 ];
 
-// The goals, each with the axioms that are marked.
-const QUESTIONS: [(u64, (u32, u32)); 6] = [
+// A goal, and the axioms that are marked.
+type Question = (u64, (u32, u32));
+
+const QUESTIONS: [Question; 6] = [
     (0b11111, (3, 1)),
     (0b11111, (1, 3)),
     (0b11111, (4, 5)),
@@ -85,12 +88,8 @@ fn print_marked(rt: &impl Print, marks: u64) -> io::Result<()> {
 }
 
 fn print_answers(rt: &impl Print, el: &El) -> io::Result<()> {
-    for question in QUESTIONS {
-        let (marks, goal) = question;
-        let (low, high) = goal;
-        if low < 6 && high < 6 {
-            let low = NAMES[low as usize];
-            let high = NAMES[high as usize];
+    for (marks, goal) in QUESTIONS {
+        if let (Some(low), Some(high)) = (NAMES.get(goal.0 as usize), NAMES.get(goal.1 as usize)) {
             let word = if answer(el, marks, goal) { "Yes" } else { "No" };
             print!(rt; "Is every {low} a {high}? {word},")?;
             print_marked(rt, marks)?;
@@ -100,9 +99,8 @@ fn print_answers(rt: &impl Print, el: &El) -> io::Result<()> {
 }
 
 fn main(rt: HostRuntime) -> io::Result<()> {
-    for i in 0..5 {
-        let number = i + 1;
-        let saying = SAYINGS[i];
+    for (place, saying) in SAYINGS.iter().enumerate() {
+        let number = place + 1;
         println!(rt; "Axiom {number}: {saying}")?;
     }
     match El::new(6, 1) {

@@ -1,10 +1,12 @@
 -- The house's labels keep the laws of a label kind: the two tables, entry by entry, and which labels are join prime.
-use Rattle.std.specs.Prelude.{◌≡◌, ℕ, ◌+◌, ◌*◌, ◌%◌, ◌<◌, ◌≤◌, min, max, Bool, T, ◌⊎◌, List, [], ◌∷◌, nat_eq, slice_index, slice_index_or, refl}
-use Rattle.std.proofs.Common.{inl, inr, arith, eqb→eq}
-use Rattle.std.proofs.Math.Decide.{dec_le, ℕ_discrete}
+use Rattle.std.specs.Prelude.{◌≡◌, ℕ, ◌+◌, ◌*◌, ◌%◌, ◌<◌, ◌≤◌, min, max, map, ◌⊎◌, List, [], ◌∷◌, slice_index, slice_index_or, refl}
+use Rattle.std.specs.List.{range_with_len}
+use Rattle.std.proofs.Common.{inl, inr, arith, zero-add}
+use Rattle.std.proofs.Math.Decide.{dec_le, dec_lt, ℕ_discrete}
+use Rattle.std.proofs.lemmas.List.{get_or_past}
+use Rattle.std.proofs.lemmas.List.FromFn.{get_or-map-range_with_len}
 use Rattle.base.specs.Words.{In}
-use Rattle.base.proofs.Tables.{square, at_entry}
-use Rattle.labels.specs.Order.{Lawful, JoinPrime, Greatest, Least, Under}
+use Rattle.labels.specs.Order.{Lawful, JoinPrime, Greatest, Least, Under, Meets, Joins}
 use Rattle.labels.specs.House.{house, sales, service, export}
 
 -- the label whose parts are found from those of a and b, one by one
@@ -17,17 +19,30 @@ min_greatest a b m la lb e = omega arith
 max_least : (a b m : ℕ) → a < 12 → b < 12 → m ≡ by_parts max a b → Least house a b m
 max_least a b m la lb e = omega arith
 
--- the test of a whole table
-abbrev pub is_table : (ℕ → ℕ → ℕ) → List (List ℕ) → Bool
-is_table f = square 12 (λ a b x. nat_eq x (by_parts f a b))
+-- the whole table of a rule: row a, place b
+abbrev pub table_of : (ℕ → ℕ → ℕ) → List (List ℕ)
+table_of f = map (λ a. map (by_parts f a) (range_with_len 0 12)) (range_with_len 0 12)
 
-pub meet_entry : (rows : List (List ℕ)) → T (is_table min rows) → (a b : ℕ) → a < 12 → b < 12 → Greatest house a b (slice_index (slice_index_or rows a []) b)
-meet_entry rows t a b la lb =
-    min_greatest a b _ la lb (eqb→eq _ _ (at_entry 12 (λ a b x. nat_eq x (by_parts min a b)) rows t a b la lb))
+module _ (f : ℕ → ℕ → ℕ) (a b : ℕ) where
+  row_of : a < 12 → slice_index_or (table_of f) a [] ≡ map (by_parts f a) (range_with_len 0 12)
+  row_of la = get_or-map-range_with_len (λ a. map (by_parts f a) (range_with_len 0 12)) 0 12 a a [] la (zero-add a)
 
-pub join_entry : (rows : List (List ℕ)) → T (is_table max rows) → (a b : ℕ) → a < 12 → b < 12 → Least house a b (slice_index (slice_index_or rows a []) b)
-join_entry rows t a b la lb =
-    max_least a b _ la lb (eqb→eq _ _ (at_entry 12 (λ a b x. nat_eq x (by_parts max a b)) rows t a b la lb))
+  entry_of : a < 12 → b < 12 → slice_index (slice_index_or (table_of f) a []) b ≡ by_parts f a b
+  entry_of la lb = rw (row_of la) (get_or-map-range_with_len (by_parts f a) 0 12 b b 0 lb (zero-add b))
+
+  beyond_table : ((a < 12) × (b < 12) → ⊥) → ◌≡◌ {A = ℕ} (slice_index (slice_index_or (table_of f) a []) b) 0
+  beyond_table out =
+      elim (dec_lt a 12) [
+        | yes la ↦ rw (row_of la) (get_or_past (map (by_parts f a) (range_with_len 0 12)) b 0 (elim (dec_lt b 12) [ yes lb ↦ absurd (out (la, lb)) | no ge ↦ omega arith ]))
+        | no ge ↦ rw (get_or_past (table_of f) a [] (omega arith)) refl
+      ]
+
+-- a table that is computed to be that of its rule answers for each two numbers
+pub meet_entry : (rows : List (List ℕ)) → rows ≡ table_of min → (a b : ℕ) → Meets house a b (slice_index (slice_index_or rows a []) b)
+meet_entry rows e a b = rw e (λ la lb. min_greatest a b _ la lb (entry_of min a b la lb), beyond_table min a b)
+
+pub join_entry : (rows : List (List ℕ)) → rows ≡ table_of max → (a b : ℕ) → Joins house a b (slice_index (slice_index_or rows a []) b)
+join_entry rows e a b = rw e (λ la lb. max_least a b _ la lb (entry_of max a b la lb), beyond_table max a b)
 
 pub house_lawful : Lawful house
 house_lawful = record {
@@ -104,26 +119,3 @@ prime_part u prime =
             | inr v ↦ inr (omega arith)
           ]
     ]
-
--- the labels of one part, or none
-pub one_part : (u : ℕ) → (u < 12) × ((u % 4 ≡ 0) ⊎ (u ≤ 2)) → In u (0 ∷ 1 ∷ 2 ∷ 4 ∷ 8 ∷ [])
-one_part u (l, one) =
-    elim (ℕ_discrete u 0) [
-      | yes e ↦ inl e
-      | no n0 ↦ inr (elim (ℕ_discrete u 1) [
-        | yes e ↦ inl e
-        | no n1 ↦ inr (elim (ℕ_discrete u 2) [
-          | yes e ↦ inl e
-          | no n2 ↦ inr (elim (ℕ_discrete u 4)
-              [ yes e ↦ inl e | no n4 ↦ inr (inl (elim one [ inl four ↦ omega arith | inr few ↦ absurd (omega arith) ])) ])
-        ])
-      ])
-    ]
-
-pub part_one : (u : ℕ) → In u (0 ∷ 1 ∷ 2 ∷ 4 ∷ 8 ∷ []) → (u < 12) × ((u % 4 ≡ 0) ⊎ (u ≤ 2))
-part_one u (inl e) = (omega arith, inr (omega arith))
-part_one u (inr (inl e)) = (omega arith, inr (omega arith))
-part_one u (inr (inr (inl e))) = (omega arith, inr (omega arith))
-part_one u (inr (inr (inr (inl e)))) = (omega arith, inl (omega arith))
-part_one u (inr (inr (inr (inr (inl e))))) = (omega arith, inl (omega arith))
-part_one u (inr (inr (inr (inr (inr i))))) = absurd i

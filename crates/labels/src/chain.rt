@@ -9,7 +9,7 @@ use crate::fault::KindFault;
 use crate::kind::LabelKind;
 
 // Labels in one line, in the order of numbers.
-#[derive(Clone, Copy)]
+#[derive(Clone, Copy, PartialEq, Eq, Debug)]
 pub struct Chain {
     labels: u32,
     ghost ok: { ChainSize labels },
@@ -19,7 +19,7 @@ impl Chain {
     pub fn new(labels: u32) -> Result<Chain, KindFault>
         ensures { Sized (ChainSize labels) (λ k. Means (chain k.labels) (chain labels)) result }
     {
-        if labels < 1 || labels > 65_536 {
+        if !(1..=65_536).contains(&labels) {
             return Err(KindFault::SizeOutOfLimits);
         }
         Ok(Chain { labels })
@@ -32,25 +32,27 @@ impl LabelKind for Chain {
     ghost lawful = { λ k. chain_lawful k.labels k.ok };
 
     fn size(&self) -> u64 {
-        self.labels as u64
+        u64::from(self.labels)
     }
 
     fn at_or_below(&self, a: u32, b: u32) -> bool {
-        a <= b && b < self.labels
+        a <= b && self.is_label(b)
     }
 
     fn meet(&self, a: u32, b: u32) -> u32 {
-        if a >= self.labels || b >= self.labels {
-            return 0;
+        if self.is_label(a) && self.is_label(b) {
+            a.min(b)
+        } else {
+            0
         }
-        a.min(b)
     }
 
     fn join(&self, a: u32, b: u32) -> u32 {
-        if a >= self.labels || b >= self.labels {
-            return 0;
+        if self.is_label(a) && self.is_label(b) {
+            a.max(b)
+        } else {
+            0
         }
-        a.max(b)
     }
 
     fn top(&self) -> u32 {
@@ -62,6 +64,6 @@ impl LabelKind for Chain {
         ensures prime { Iff (T result) (JoinPrime (chain self.now.labels) user) }
         ensures which { Iff (T result) (user < self.now.labels) }
     {
-        user < self.labels
+        self.is_label(user)
     }
 }

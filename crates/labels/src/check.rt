@@ -11,7 +11,7 @@ use crate::kind::LabelKind;
 pub fn check_label<K: LabelKind>(kind: &K, label: u32) -> Result<(), KindFault>
     ensures { MatchResult result (λ _. Label (K.meaning kind.now) label) (λ f. (Label (K.meaning kind.now) label → ⊥) × (f ≡ NotALabel)) }
 {
-    if (label as u64) < kind.size() {
+    if kind.is_label(label) {
         Ok(())
     } else {
         Err(KindFault::NotALabel)

@@ -5,15 +5,15 @@ ghost use Rattle.labels.specs.Fault.{number as number_of};
 #[derive(Clone, Copy, PartialEq, Eq, Debug)]
 pub enum KindFault {
     // a size outside its limits
-    SizeOutOfLimits,
+    SizeOutOfLimits = 4,
     // two different labels of a table, each at or below the other
-    Loop,
+    Loop = 5,
     // two labels of a table without a meet or a join
-    NoMeetOrJoin,
+    NoMeetOrJoin = 6,
     // a number that is no label of the kind
-    NotALabel,
+    NotALabel = 8,
     // a label that is not admitted as a user
-    NotAdmitted,
+    NotAdmitted = 17,
 }
 
 impl KindFault {
@@ -21,12 +21,6 @@ impl KindFault {
     pub fn number(self) -> u32
         ensures { result ≡ number_of self }
     {
-        match self {
-            KindFault::SizeOutOfLimits => 4,
-            KindFault::Loop => 5,
-            KindFault::NoMeetOrJoin => 6,
-            KindFault::NotALabel => 8,
-            KindFault::NotAdmitted => 17,
-        }
+        self as u32
     }
 }

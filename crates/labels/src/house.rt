@@ -5,6 +5,7 @@ ghost use Rattle.labels.specs.Order.{Greatest, Least, Means, JoinPrime};
 ghost use Rattle.labels.specs.Houses.{house_lawful};
 
 use crate::kind::LabelKind;
+use crate::square::entry;
 
 // The meet of a and b stands in row a, at place b.
 const MEETS: [[u8; 12]; 12] = [
@@ -38,22 +39,8 @@ const JOINS: [[u8; 12]; 12] = [
     [11, 11, 11, 11, 11, 11, 11, 11, 11, 11, 11, 11],
 ];
 
-fn meet_of(a: usize, b: usize) -> u8
-    requires { (a < 12) × (b < 12) }
-    ensures { Greatest house a b result }
-{
-    MEETS[a][b]
-}
-
-fn join_of(a: usize, b: usize) -> u8
-    requires { (a < 12) × (b < 12) }
-    ensures { Least house a b result }
-{
-    JOINS[a][b]
-}
-
 // Labels of three parts, 4 × sales + 2 × service + export, ordered part by part.
-#[derive(Clone, Copy)]
+#[derive(Clone, Copy, Default, PartialEq, Eq, Debug)]
 pub struct House;
 
 impl House {
@@ -74,23 +61,19 @@ impl LabelKind for House {
     }
 
     fn at_or_below(&self, a: u32, b: u32) -> bool {
-        a < 12 && b < 12 && a / 4 <= b / 4 && a / 2 % 2 <= b / 2 % 2 && a % 2 <= b % 2
+        self.is_label(a)
+            && self.is_label(b)
+            && a / 4 <= b / 4
+            && a / 2 % 2 <= b / 2 % 2
+            && a % 2 <= b % 2
     }
 
     fn meet(&self, a: u32, b: u32) -> u32 {
-        if a < 12 && b < 12 {
-            meet_of(a as usize, b as usize) as u32
-        } else {
-            0
-        }
+        entry(&MEETS, a, b)
     }
 
     fn join(&self, a: u32, b: u32) -> u32 {
-        if a < 12 && b < 12 {
-            join_of(a as usize, b as usize) as u32
-        } else {
-            0
-        }
+        entry(&JOINS, a, b)
     }
 
     fn top(&self) -> u32 {
@@ -102,6 +85,6 @@ impl LabelKind for House {
         ensures prime { Iff (T result) (JoinPrime house user) }
         ensures which { Iff (T result) (In user (0 ∷ 1 ∷ 2 ∷ 4 ∷ 8 ∷ [])) }
     {
-        user < 12 && (user % 4 == 0 || user <= 2)
+        self.is_label(user) && (user % 4 == 0 || user <= 2)
     }
 }

@@ -1,6 +1,6 @@
 ghost use Rattle.std.specs.Prelude.{◌≡◌, T};
 ghost use Rattle.base.specs.Words.{Iff};
-ghost use Rattle.labels.specs.Order.{LabelOrder, Under, Top, Meets, Joins, JoinPrime, Lawful};
+ghost use Rattle.labels.specs.Order.{LabelOrder, Label, Under, Top, Meets, Joins, JoinPrime, Lawful};
 
 // A label kind: what its labels are, and how they are ordered. No question changes anything.
 pub trait LabelKind: Drop {
@@ -9,6 +9,13 @@ pub trait LabelKind: Drop {
     // How many labels there are: they are the numbers below.
     fn size(&self) -> u64
         ensures { result ≡ (meaning self.now).size };
+
+    // Is the number one of the labels?
+    fn is_label(&self, a: u32) -> bool
+        ensures { Iff (T result) (Label (meaning self.now) a) }
+    {
+        u64::from(a) < self.size()
+    }
 
     // Is a at or below b? No, where one of them is no label.
     fn at_or_below(&self, a: u32, b: u32) -> bool

@@ -7,3 +7,4 @@ pub mod fault;
 pub mod house;
 pub mod kind;
 pub mod sets;
+pub mod square;

@@ -10,7 +10,7 @@ use crate::fault::KindFault;
 use crate::kind::LabelKind;
 
 // Sets of regions, ordered by inclusion: bit k of a label stands for region k.
-#[derive(Clone, Copy)]
+#[derive(Clone, Copy, PartialEq, Eq, Debug)]
 pub struct Sets {
     regions: u32,
     ghost ok: { SetsSize regions },
@@ -25,18 +25,6 @@ impl Sets {
         }
         Ok(Sets { regions })
     }
-
-    fn count(&self) -> u64
-        ensures { result ≡ 2 ^ self.now.regions }
-    {
-        1 << self.regions
-    }
-
-    fn is_label(&self, a: u32) -> bool
-        ensures { Iff (T result) (Label (sets self.now.regions) a) }
-    {
-        u64::from(a) < self.count()
-    }
 }
 
 impl LabelKind for Sets {
@@ -45,7 +33,7 @@ impl LabelKind for Sets {
     ghost lawful = { λ k. sets_lawful k.regions k.ok };
 
     fn size(&self) -> u64 {
-        self.count()
+        1 << self.regions
     }
 
     fn at_or_below(&self, a: u32, b: u32) -> bool {
@@ -69,7 +57,7 @@ impl LabelKind for Sets {
     }
 
     fn top(&self) -> u32 {
-        (self.count() - 1) as u32
+        (self.size() - 1) as u32
     }
 
     // The empty set and the single regions are admitted.

@@ -1,5 +1,5 @@
 -- What is written is read back as the same.
-use Rattle.std.proofs.Common.{◌≡◌, ℕ, zero, suc, ◌^◌, ◌<◌, List, [], ◌∷◌, ◌++◌, map, length, get_or, take, decimal, Option, sym, refl, ap, ◌∙◌, subst, ap₂, inl, inr, append_assoc, arith, rules, take-append-drop, length-take-le}
+use Rattle.std.proofs.Common.{◌≡◌, ℕ, zero, suc, ◌-◌, ◌^◌, ◌<◌, List, [], ◌∷◌, ◌++◌, map, length, get_or, take, drop, replicate, decimal, Option, sym, refl, ap, ◌∙◌, subst, ap₂, inl, inr, append_assoc, arith, rules, take-append-drop, length-take-le}
 use Rattle.std.specs.Int.{IsInRange as Between}
 use Rattle.std.proofs.lemmas.Fmt.{digits_decimal, decimal_injective}
 use Rattle.std.proofs.lemmas.List.{append_cancel_left, length-map}
@@ -79,23 +79,22 @@ small_numbers x w n i = w.small n (in_take (arity x.form) x.numbers n i)
 bare_body : (x : Line) → Whole x → Bare 10 (body x)
 bare_body x w = bare_append 10 (opening x.form) (tails (map decimal (numbers_of x))) (bare_above (opening x.form) (above_opening x.form)) (bare_tails (numbers_of x) (small_numbers x w))
 
-numbers_unique : (f : Form) (ms ns : List ℕ) → Whole (record { form = f; numbers = ms }) → Whole (record { form = f; numbers = ns }) → tails (map decimal (take (arity f) ms)) ≡ tails (map decimal (take (arity f) ns)) → ms ≡ ns
-numbers_unique f ms ns v w e =
-    let sm : Small (take (arity f) ms) = λ n i. v.small n (in_take (arity f) ms n i) in
-    let sn : Small (take (arity f) ns) = λ n i. w.small n (in_take (arity f) ns n i) in
-    let front : take (arity f) ms ≡ take (arity f) ns =
-    decimals_unique (take (arity f) ms) (take (arity f) ns) sm sn (fields_unique (map decimal (take (arity f) ms)) (map decimal (take (arity f) ns)) (all_bare_decimals (take (arity f) ms) sm) (all_bare_decimals (take (arity f) ns) sn) e) in
-    sym (take-append-drop (arity f) ms) ∙ ap₂ (λ (a b : List ℕ). a ++ b) front (v.rest ∙ sym w.rest) ∙ take-append-drop (arity f) ns
+numbers_unique : (x y : Line) → Whole x → Whole y → x.form ≡ y.form → body x ≡ body y → x.numbers ≡ y.numbers
+numbers_unique x y v w form same =
+    let ms : List ℕ = numbers_of x in
+    let ns : List ℕ = numbers_of y in
+    let behind : tails (map decimal ms) ≡ tails (map decimal ns) = append_cancel_left (opening x.form) _ _ (same ∙ ap (λ (f : Form). opening f ++ tails (map decimal ns)) (sym form)) in
+    let fields : map decimal ms ≡ map decimal ns = fields_unique (map decimal ms) (map decimal ns) (all_bare_decimals ms (small_numbers x v)) (all_bare_decimals ns (small_numbers y w)) behind in
+    let front : ms ≡ ns = decimals_unique ms ns (small_numbers x v) (small_numbers y w) fields in
+    let back : drop (arity x.form) x.numbers ≡ drop (arity y.form) y.numbers = v.rest ∙ ap (λ (f : Form). replicate (4 - arity f) 0) form ∙ sym w.rest in
+    sym (take-append-drop (arity x.form) x.numbers) ∙ ap₂ (λ (a b : List ℕ). a ++ b) front back ∙ take-append-drop (arity y.form) y.numbers
 
 -- a line that was written is the only one that the bytes go on with
 pub text_unique : (x y : Line) → Whole x → Whole y → (r s : List ℕ) → text x ++ r ≡ text y ++ s → (x ≡ y) × (r ≡ s)
 text_unique x y v w r s e =
     let (same, rest) = first_part 10 (body x) (body y) r s (bare_body x v) (bare_body y w) (sym (append_assoc (body x) (10 ∷ []) r) ∙ e ∙ append_assoc (body y) (10 ∷ []) s) in
     let form : x.form ≡ y.form = same_opening x.form y.form (tails (map decimal (numbers_of x))) (tails (map decimal (numbers_of y))) same in
-    let v' : Whole (record { form = y.form; numbers = x.numbers }) = subst (λ (f : Form). Whole (record { form = f; numbers = x.numbers })) form v in
-    let same' : opening y.form ++ tails (map decimal (take (arity y.form) x.numbers)) ≡ body y = subst (λ (f : Form). opening f ++ tails (map decimal (take (arity f) x.numbers)) ≡ body y) form same in
-    let numbers : x.numbers ≡ y.numbers = numbers_unique y.form x.numbers y.numbers v' w (append_cancel_left (opening y.form) _ _ same') in
-    (ap₂ (λ (f : Form) (ns : List ℕ). record { form = f; numbers = ns }) form numbers, rest)
+    (ap₂ (λ (f : Form) (ns : List ℕ). record { form = f; numbers = ns }) form (numbers_unique x y v w form same), rest)
 
 -- a line has the shape of its form
 own_shape : (x : Line) → Whole x → Shaped (body x) x.form (map decimal (numbers_of x))

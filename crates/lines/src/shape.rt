@@ -41,8 +41,8 @@ fn logic_of(line: &[u8]) -> Option<(Form, &[u8])>
     }
 }
 
-// The form that the first letter names, for a kind or a logic with the word behind it, and what stands behind that. Kept: a rule of
-// the project, that letters are matched as `char` literals.
+// The form that the first letter names, for a kind or a logic with the word behind it, and what stands behind that.
+// Kept: a rule of the project, letters are matched as `char` literals.
 fn form_of(line: &[u8]) -> Option<(Form, &[u8])>
     ensures { MatchOption result ((f : AnyForm) (rest : List ℕ) → line.now ≢ opening f ++ rest) (λ x. line.now ≡ opening x.0 ++ x.1.now) }
 {

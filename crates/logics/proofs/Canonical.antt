@@ -1,54 +1,42 @@
 -- The interpretation that the cells of a work area draw: what the records say of a row, once nothing is left to tick there.
-use Rattle.std.proofs.Common.{◌≡◌, ℕ, ◌<◌, Bool, true, false, ◌&&◌, ◌||◌, T, eqb, ◌⊎◌, List, [], ◌∷◌, sym, refl, subst, inl, inr, arith}
+use Rattle.std.proofs.Common.{◌≡◌, ℕ, ◌<◌, Bool, true, false, ◌&&◌, ◌||◌, T, eqb, List, [], ◌∷◌, sym, refl, subst, inl, inr, arith}
 use native.Mathlib.Decide.{dec_lt}
 use lib.Dec.{eqb_refl}
+use Rattle.std.proofs.Math.Facts.{and_yes, yes_and, or_yes}
 use Rattle.base.specs.Words.{In}
 use Rattle.base.proofs.Tests.{eqb_iff, ltb_iff}
 use Rattle.logics.specs.Drawing.{in_row, row, drawn_concept, partner, drawn_role, DrawnAt, AllDrawn}
-use Rattle.logics.specs.Plan.{cell}
-use Rattle.logics.specs.Entailment.{Goal}
+use Rattle.logics.specs.Plan.{SettledAt, cell}
+use Rattle.logics.specs.Entailment.{Each, Goal}
 use Rattle.logics.specs.Interpretation.{Interpretation, Satisfies, Entails}
-use Rattle.logics.specs.WorkArea.{Ticked, Settled}
+use Rattle.logics.specs.WorkArea.{Ticked}
 use Rattle.logics.specs.declared.Record.{Record}
-use Rattle.logics.specs.Marked.{Each}
 
-both : (a b : Bool) → T a → T b → T (a && b)
-both true b s t = t
-both false b s t = s
+yes_or_left : (a b : Bool) → T a → T (a || b)
+yes_or_left true b t = tt
+yes_or_left false b t = absurd t
 
-parts : (a b : Bool) → T (a && b) → T a × T b
-parts true b t = (tt, t)
-parts false b t = absurd t
-
-first : (a b : Bool) → T a → T (a || b)
-first true b t = tt
-first false b t = absurd t
-
-second : (a b : Bool) → T b → T (a || b)
-second true b t = tt
-second false b t = t
-
-either : (a b : Bool) → T (a || b) → T a ⊎ T b
-either true b t = inl tt
-either false b t = inr t
+yes_or_right : (a b : Bool) → T b → T (a || b)
+yes_or_right true b t = tt
+yes_or_right false b t = t
 
 -- what a record r of form 4 asks of the row of x, given one of form 3
 abbrev pub Pulled : ℕ → ℕ → Record → Record → List ℕ → Type 0
 Pulled n x r p cells =
-    p.form ≡ 3 → p.b ≡ r.a → Settled (cell n (x, p.a)) (cell n (p.c, r.b)) (cell n (x, r.c)) cells
+    p.form ≡ 3 → p.b ≡ r.a → SettledAt n (x, p.a) (p.c, r.b) (x, r.c) cells
 
 module _ (n : ℕ) (cells : List ℕ) where
   pub row_drawn : (x : ℕ) → x < n → Ticked cells (cell n (x, 0)) → T (row n cells x)
-  row_drawn x lt t = both _ _ ((ltb_iff x n).1 lt) ((ltb_iff 0 _).1 t)
+  row_drawn x lt t = yes_and _ _ ((ltb_iff x n).1 lt) ((ltb_iff 0 _).1 t)
 
   pub concept_drawn : (c x : ℕ) → T (row n cells x) → Ticked cells (cell n (x, c)) → T (drawn_concept n cells c x)
-  concept_drawn c x r t = both _ _ r ((ltb_iff 0 _).1 t)
+  concept_drawn c x r t = yes_and _ _ r ((ltb_iff 0 _).1 t)
 
   pub drawn_row : (c x : ℕ) → T (drawn_concept n cells c x) → T (row n cells x)
-  drawn_row c x t = (parts _ _ t).0
+  drawn_row c x t = (and_yes _ _ t).0
 
   pub drawn_ticked : (c x : ℕ) → T (drawn_concept n cells c x) → Ticked cells (cell n (x, c))
-  drawn_ticked c x t = (ltb_iff 0 _).0 (parts _ _ t).1
+  drawn_ticked c x t = (ltb_iff 0 _).0 (and_yes _ _ t).1
 
   record Partner (role x y : ℕ) (rs : List Record) : Type 0 where
     by : Record
@@ -61,11 +49,11 @@ module _ (n : ℕ) (cells : List ℕ) where
   some_partner : (role x y : ℕ) (rs : List Record) → T (partner n cells role x y rs) → Partner role x y rs
   some_partner role x y [] t = absurd t
   some_partner role x y (r ∷ rs) t =
-      elim (either _ _ t) [
+      elim (or_yes _ _ t) [
         | inl h ↦
-            let form = parts _ _ h in
-            let by_role = parts _ _ form.1 in
-            let to = parts _ _ by_role.1 in
+            let form = and_yes _ _ h in
+            let by_role = and_yes _ _ form.1 in
+            let to = and_yes _ _ by_role.1 in
             record { by = r; given = inl refl; form = (eqb_iff _ _).0 form.0; role_is = (eqb_iff _ _).0 by_role.0; to = (eqb_iff _ _).0 to.0; has = (ltb_iff 0 _).0 to.1 }
         | inr h ↦
             let p = some_partner role x y rs h in
@@ -76,10 +64,10 @@ module _ (n : ℕ) (cells : List ℕ) where
   partner_by r x [] i form t = absurd i
   partner_by r x (s ∷ rs) (inl e) form t =
       let P : Record → Type 0 = λ q. T ((eqb q.form 3 && (eqb q.b r.b && (eqb q.c r.c && in_row n cells x q.a))) || partner n cells r.b x r.c rs) in
-      let to = both (eqb r.c r.c) _ (eqb_refl r.c) ((ltb_iff 0 _).1 t) in
-      let by_role = both (eqb r.b r.b) _ (eqb_refl r.b) to in
-      subst P e (first _ _ (both (eqb r.form 3) _ ((eqb_iff _ _).1 form) by_role))
-  partner_by r x (s ∷ rs) (inr i) form t = second _ _ (partner_by r x rs i form t)
+      let to = yes_and (eqb r.c r.c) _ (eqb_refl r.c) ((ltb_iff 0 _).1 t) in
+      let by_role = yes_and (eqb r.b r.b) _ (eqb_refl r.b) to in
+      subst P e (yes_or_left _ _ (yes_and (eqb r.form 3) _ ((eqb_iff _ _).1 form) by_role))
+  partner_by r x (s ∷ rs) (inr i) form t = yes_or_right _ _ (partner_by r x rs i form t)
 
   module _ (rs : List Record) (x : ℕ) (r : Record) where
     -- a row that is not reached
@@ -89,10 +77,10 @@ module _ (n : ℕ) (cells : List ℕ) where
           lies = λ _ t. absurd (never (drawn_row _ x t));
           both = λ _ t _. absurd (never (drawn_row _ x t));
           partner = λ _ t. absurd (never (drawn_row _ x t));
-          source = λ _ y t _. absurd (never (parts _ _ t).0);
+          source = λ _ y t _. absurd (never (and_yes _ _ t).0);
         }
 
-    pub lies_drawn : r.form ≡ 1 → Settled (cell n (x, r.a)) (cell n (x, r.a)) (cell n (x, r.b)) cells → DrawnAt n rs x r cells
+    pub lies_drawn : r.form ≡ 1 → SettledAt n (x, r.a) (x, r.a) (x, r.b) cells → DrawnAt n rs x r cells
     lies_drawn form settled =
         record {
           lies = λ _ t. let a = drawn_ticked r.a x t in concept_drawn r.b x (drawn_row r.a x t) (settled a a);
@@ -101,7 +89,7 @@ module _ (n : ℕ) (cells : List ℕ) where
           source = λ f. absurd (omega arith);
         }
 
-    pub both_drawn : r.form ≡ 2 → Settled (cell n (x, r.a)) (cell n (x, r.b)) (cell n (x, r.c)) cells → DrawnAt n rs x r cells
+    pub both_drawn : r.form ≡ 2 → SettledAt n (x, r.a) (x, r.b) (x, r.c) cells → DrawnAt n rs x r cells
     both_drawn form settled =
         record {
           lies = λ f. absurd (omega arith);
@@ -110,7 +98,7 @@ module _ (n : ℕ) (cells : List ℕ) where
           source = λ f. absurd (omega arith);
         }
 
-    pub partner_drawn : r.form ≡ 3 → In r rs → r.c < n → Settled (cell n (x, r.a)) (cell n (x, r.a)) (cell n (r.c, 0)) cells → Settled (cell n (x, r.a)) (cell n (x, r.a)) (cell n (r.c, r.c)) cells → DrawnAt n rs x r cells
+    pub partner_drawn : r.form ≡ 3 → In r rs → r.c < n → SettledAt n (x, r.a) (x, r.a) (r.c, 0) cells → SettledAt n (x, r.a) (x, r.a) (r.c, r.c) cells → DrawnAt n rs x r cells
     partner_drawn form given lt top own =
         record {
           lies = λ f. absurd (omega arith);
@@ -118,7 +106,7 @@ module _ (n : ℕ) (cells : List ℕ) where
           partner = λ _ t.
               let a = drawn_ticked r.a x t in
               let there = row_drawn r.c lt (top a a) in
-              (r.c, both _ _ (drawn_row r.a x t) (both _ _ there (partner_by r x rs given form a)), concept_drawn r.c r.c there (own a a));
+              (r.c, yes_and _ _ (drawn_row r.a x t) (yes_and _ _ there (partner_by r x rs given form a)), concept_drawn r.c r.c there (own a a));
           source = λ f. absurd (omega arith);
         }
 
@@ -129,8 +117,8 @@ module _ (n : ℕ) (cells : List ℕ) where
           both = λ f. absurd (omega arith);
           partner = λ f. absurd (omega arith);
           source = λ _ y t u.
-              let here = parts _ _ t in
-              let p = some_partner r.a x y rs (parts _ _ here.1).1 in
+              let here = and_yes _ _ t in
+              let p = some_partner r.a x y rs (and_yes _ _ here.1).1 in
               let there = subst (λ (z : ℕ). Ticked cells (cell n (z, r.b))) (sym p.to) (drawn_ticked r.b y u) in
               concept_drawn r.c x here.0 (all p.by p.given p.form p.role_is p.has there);
         }
@@ -145,8 +133,8 @@ module _ (n : ℕ) (cells : List ℕ) where
         concept = drawn_concept n cells;
         role = drawn_role n cells rs;
         concept_inside = drawn_row;
-        role_inside = λ r x y t. ((parts _ _ t).0, (parts _ _ (parts _ _ t).1).0);
-        everything = λ x t. both _ _ t (parts _ _ t).1;
+        role_inside = λ r x y t. ((and_yes _ _ t).0, (and_yes _ _ (and_yes _ _ t).1).0);
+        everything = λ x t. yes_and _ _ t (and_yes _ _ t).1;
       } in
-      let satisfied : (r : Record) → In r rs → Satisfies drawing r = λ r given x. elim (dec_lt x n) [ yes inside ↦ all x inside r given | no out ↦ blank_drawn rs x r (λ t. absurd (out ((ltb_iff x n).0 (parts _ _ t).0))) ] in
+      let satisfied : (r : Record) → In r rs → Satisfies drawing r = λ r given x. elim (dec_lt x n) [ yes inside ↦ all x inside r given | no out ↦ blank_drawn rs x r (λ t. absurd (out ((ltb_iff x n).0 (and_yes _ _ t).0))) ] in
       drawn_ticked g.1 g.0 (follows drawing satisfied g.0 (concept_drawn g.0 g.0 here own))

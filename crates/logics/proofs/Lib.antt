@@ -1,4 +1,4 @@
-pub mod Scrubs
 pub mod Rounds
 pub mod Canonical
-pub mod Forms
+pub mod Walks
+pub mod Selections

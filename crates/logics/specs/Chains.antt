@@ -2,12 +2,11 @@
 use Rattle.std.specs.Prelude.{◌≡◌, ℕ, List, refl}
 use Rattle.std.proofs.Common.{sym, subst, inl, inr}
 use Rattle.base.specs.Words.{In}
-use Rattle.logics.specs.Entailment.{Goal}
+use Rattle.logics.specs.Entailment.{Each, Goal}
 use Rattle.logics.specs.Links.{Link, Chain, one, more, Leads, links}
 use Rattle.logics.specs.Plan.{Laid, links_plan}
 use Rattle.logics.specs.WorkArea.{Ticked, Settled}
 use Rattle.logics.specs.declared.Record.{Record}
-use Rattle.logics.specs.Marked.{Each}
 
 pub leads_on : (rs : List Record) (r : Record) (s : ℕ) → In r rs → r.form ≡ 5 → Leads rs (s, r.a) → Leads rs (s, r.b)
 leads_on rs r s i f (inl e) = inr (one (record { by = r; given = i; form = f; from = sym e; to = refl }))

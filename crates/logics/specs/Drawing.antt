@@ -1,5 +1,6 @@
 -- The concepts and roles that the cells of a work area draw: the elements are the rows that are reached.
-use Rattle.std.specs.Prelude.{ℕ, Bool, false, ◌&&◌, ◌||◌, List, [], ◌∷◌, ◌==◌, nat_lt, slice_index}
+use Rattle.std.specs.Prelude.{ℕ, Bool, ◌&&◌, List, ◌==◌, nat_lt, slice_index}
+use Rattle.std.specs.List.{list_any}
 use Rattle.base.specs.Words.{In}
 use Rattle.logics.specs.Plan.{cell}
 use Rattle.logics.specs.Interpretation.{HoldsAt}
@@ -20,9 +21,7 @@ module _ (n : ℕ) (cells : List ℕ) where
 
   -- does one of the records make y a partner of x by the role?
   abbrev pub partner : ℕ → ℕ → ℕ → List Record → Bool
-  partner role x y [] = false
-  partner role x y (r ∷ rs) =
-      (r.form == 3 && (r.b == role && (r.c == y && in_row x r.a))) || partner role x y rs
+  partner role x y = list_any (λ r. r.form == 3 && (r.b == role && (r.c == y && in_row x r.a)))
 
   -- two elements are related as a record makes them partners
   abbrev pub drawn_role : List Record → ℕ → ℕ → ℕ → Bool

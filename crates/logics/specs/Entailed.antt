@@ -1,13 +1,14 @@
 -- What follows in el, step by step, and the cells that stand for it.
-use Rattle.std.specs.Prelude.{◌≡◌, ℕ, ◌*◌, ◌/◌, ◌%◌, ◌<◌, ◌≤◌, Bool, true, false, T, List, length, refl}
+use Rattle.std.specs.Prelude.{◌≡◌, ℕ, ◌*◌, ◌/◌, ◌%◌, ◌<◌, ◌≤◌, Bool, T, List, length, refl}
 use Rattle.std.proofs.Common.{subst, arith}
 use Rattle.std.proofs.Math.Arith.{digits_lt, digits_div, digits_mod}
+use Rattle.std.specs.Bool.{MatchBool}
 use Rattle.base.specs.Words.{In}
 use Rattle.logics.specs.El.{el}
-use Rattle.logics.specs.Plan.{Entailed, InGrid, Laid, Tried, cell, el_plan}
+use Rattle.logics.specs.Plan.{Derived, Entailed, InGrid, Laid, SettledAt, cell, el_plan}
 use Rattle.logics.specs.Entailment.{Goal}
 use Rattle.logics.specs.Interpretation.{Entails}
-use Rattle.logics.specs.WorkArea.{Ticked, Inferred, Settled, Sound}
+use Rattle.logics.specs.WorkArea.{Ticked, Inferred, Sound}
 use Rattle.logics.specs.declared.Record.{Record}
 use Rattle.logics.specs.Ticks.{infer_one}
 
@@ -45,11 +46,11 @@ module _ (rs : List Record) where
       let e = all (cell n g) (digits_lt inside.0 inside.1) t in
       rw (digits_div g.0 inside.1, digits_mod g.0 inside.1) at e
 
-  -- a goal that follows from two others is ticked once they are
-  pub derive_one : (n : ℕ) (p q k : Goal) {before after : List ℕ} {changed : Bool} → InGrid n p → InGrid n q → InGrid n k → n * n ≤ length before → (Entails rs p → Entails rs q → Entails rs k) → (changed ≡ true → Inferred (cell n p) (cell n q) (cell n k) before after) → (changed ≡ false → Settled (cell n p) (cell n q) (cell n k) before × (after ≡ before)) → Tried n rs (Settled (cell n p) (cell n q) (cell n k)) before after changed
-  derive_one n p q k {before} p_in q_in k_in wide step =
-      infer_one _ _ _ _ _ _ (digits_lt k_in.0 k_in.1) wide
-      (λ all s t. cell_may n k k_in.1 (step (cell_stands n before all p p_in s) (cell_stands n before all q q_in t)))
+-- a goal that follows from two others is ticked once they are
+pub derive_one : (n : ℕ) (p q k : Goal) {before after : List ℕ} {changed : Bool} → InGrid n p → InGrid n q → InGrid n k → n * n ≤ length before → MatchBool changed (Inferred (cell n p) (cell n q) (cell n k) before after) (SettledAt n p q k before × (after ≡ before)) → Derived n p q k before after changed
+derive_one n p q k {before} p_in q_in k_in wide done rs step =
+    infer_one _ _ _ _ _ _ (digits_lt k_in.0 k_in.1) wide
+    (λ all s t. cell_may rs n k k_in.1 (step (cell_stands rs n before all p p_in s) (cell_stands rs n before all q q_in t))) done
 
 -- the cells of a goal that el takes
 pub el_laid : (n roles : ℕ) (g : Goal) → (el n roles).TakesGoal g → Laid (el_plan n roles) g

@@ -10,3 +10,4 @@ pub mod Entailed
 pub mod Ticks
 pub mod Chains
 pub mod Marked
+pub mod Forms

@@ -1,17 +1,17 @@
 -- The marked records of a list: the first of them, and the others.
-use Rattle.std.specs.Prelude.{◌≡◌, ℕ, zero, suc, ◌-◌, ◌/◌, ◌%◌, ◌^◌, ◌<◌, ◌≤◌, ◌⊎◌, List, [], ◌∷◌, length, slice_index_or, refl}
+use Rattle.std.specs.Prelude.{◌≡◌, ℕ, zero, suc, ◌-◌, ◌/◌, ◌%◌, ◌^◌, ◌<◌, ◌≤◌, ◌⊎◌, List, [], ◌∷◌, ◌++◌, length, slice_index_or, refl}
 use Rattle.std.proofs.Common.{sym, ap, ◌∙◌, inl, inr, pow-suc, arith}
 use Rattle.std.proofs.Math.Decide.{ℕ_discrete}
 use Rattle.std.specs.Int.Count.{count_trailing_zeros}
 use Rattle.std.proofs.lemmas.Bool.{eq-eqb, ne_eqb}
 use Rattle.base.specs.Words.{Iff, In}
-use Rattle.logics.specs.Entailment.{marked}
+use Rattle.logics.specs.Entailment.{Each, marked}
 use Rattle.logics.specs.declared.Record.{Record}
 
-odd_marked : (m : ℕ) (x : Record) (xs : List Record) → m % 2 ≡ 1 → marked (x ∷ xs) m ≡ x ∷ marked xs (m / 2)
+pub odd_marked : (m : ℕ) (x : Record) (xs : List Record) → m % 2 ≡ 1 → marked (x ∷ xs) m ≡ x ∷ marked xs (m / 2)
 odd_marked m x xs odd = rw (eq-eqb (m % 2) 1 odd) refl
 
-even_marked : (m : ℕ) (x : Record) (xs : List Record) → m % 2 ≡ 0 → marked (x ∷ xs) m ≡ marked xs (m / 2)
+pub even_marked : (m : ℕ) (x : Record) (xs : List Record) → m % 2 ≡ 0 → marked (x ∷ xs) m ≡ marked xs (m / 2)
 even_marked m x xs even = rw (ne_eqb (m % 2) 1 (λ odd. omega arith)) refl
 
 pub none_marked : (rs : List Record) → marked rs 0 ≡ []
@@ -57,39 +57,17 @@ first_marked (x ∷ xs) m (suc k) d some small long =
           rw even (first_later m (count_trailing_zeros k (m / 2)) d x xs even (first_marked xs (m / 2) k d (omega arith) (omega arith) (omega arith)))
     ]
 
--- what holds of each of a list
-abbrev pub Each : (Record → Type 0) → List Record → Type 0
-Each P xs = (x : Record) → In x xs → P x
+-- what holds of some records holds with one more
+pub each_more : {P : Record → Type 0} (xs : List Record) (y : Record) → Each P xs → P y → Each P (xs ++ y ∷ [])
+each_more [] y old new x (inl e) = rw e new
+each_more [] y old new x (inr i) = absurd i
+each_more (z ∷ zs) y old new x (inl e) = old x (inl e)
+each_more (z ∷ zs) y old new x (inr i) = each_more zs y (λ w j. old w (inr j)) new x i
 
--- what holds of each but those that are left
-abbrev pub But : (Record → Type 0) → List Record → List Record → Type 0
-But P all rest = (x : Record) → In x all → P x ⊎ In x rest
-
-pub but_more : {P : Record → Type 0} (all rest others : List Record) (y : Record) → rest ≡ y ∷ others → But P all rest → P y → But P all others
-but_more {P} all rest others y e old new x i =
-    elim (old x i) [ inl p ↦ inl p | inr j ↦ next (rw e at j) ]
-  where
-    next : In x (y ∷ others) → P x ⊎ In x others
-    next (inl same) = inl (rw same new)
-    next (inr j) = inr j
-
-pub but_none : {P : Record → Type 0} (all rs : List Record) {rest : ℕ} → rest ≡ 0 → But P all (marked rs rest) → Each P all
-but_none {P} all rs e old x i = elim (old x i) [ inl p ↦ p | inr j ↦ absurd (rw (e, none_marked) at j) ]
-
--- on the way through the marked records: those that are left are among them
-pub record Walk (rs : List Record) (marks rest : ℕ) : Type 0 where
-  pub within : rest < 2 ^ length rs
-  pub among : (x : Record) → In x (marked rs rest) → In x (marked rs marks)
-
-pub walk_start : (rs : List Record) (marks : ℕ) → marks < 2 ^ length rs → Walk rs marks marks
-walk_start rs marks lt = record { within = lt; among = λ x i. i }
-
-module _ (rs : List Record) (marks rest others : ℕ) (y : Record) (first : marked rs rest ≡ y ∷ marked rs others) (walk : Walk rs marks rest) where
-  pub walk_first : In y (marked rs marks)
-  walk_first = walk.among y (rw first (inl refl))
-
-  pub walk_more : others < rest → Walk rs marks others
-  walk_more lt = record { within = omega (arith, walk.within); among = λ x i. walk.among x (rw first (inr i)) }
+-- a record between two others
+pub in_between : (xs : List Record) (y : Record) (ys : List Record) → In y (xs ++ y ∷ ys)
+in_between [] y ys = inl refl
+in_between (x ∷ xs) y ys = inr (in_between xs y ys)
 
 -- what is marked of a list that is not empty
 pub in_cons : (m : ℕ) (x y : Record) (ys : List Record) → Iff (In x (marked (y ∷ ys) m)) (((m % 2 ≡ 1) × (x ≡ y)) ⊎ In x (marked ys (m / 2)))

@@ -1,11 +1,11 @@
 -- How a logic lays a question out in its work area: each cell stands for a goal.
-use Rattle.std.specs.Prelude.{◌≡◌, ℕ, ◌+◌, ◌*◌, ◌/◌, ◌%◌, ◌^◌, ◌<◌, ◌≤◌, Bool, List, length, bit_and}
-use Rattle.base.specs.Words.{Iff, In}
+use Rattle.std.specs.Prelude.{◌≡◌, ℕ, ◌+◌, ◌*◌, ◌/◌, ◌%◌, ◌<◌, ◌≤◌, Bool, T, List, slice_index}
+use Rattle.base.specs.Words.{Iff}
 use Rattle.logics.specs.El.{el}
-use Rattle.logics.specs.Entailment.{Entailment, Goal, marked}
+use Rattle.logics.specs.Entailment.{Each, Entailment, Goal}
 use Rattle.logics.specs.Interpretation.{Entails}
 use Rattle.logics.specs.Links.{links}
-use Rattle.logics.specs.WorkArea.{Ticked, Ticking}
+use Rattle.logics.specs.WorkArea.{Ticked, Settled, Sound, Ticking}
 use Rattle.logics.specs.declared.Record.{Record}
 
 -- a logic, with its layout of a question
@@ -31,6 +31,18 @@ module _ (p : Plan) where
   abbrev pub Complete : List Record → Goal → List ℕ → Type 0
   Complete rs g cells = Begun g cells → p.logic.Follows rs g → Ticked cells (p.place g)
 
+  -- the answer to a goal is right
+  abbrev pub Answered : List Record → Goal → Bool → Type 0
+  Answered rs g answer = Iff (T answer) (p.logic.Follows rs g)
+
+  -- no cell is ticked
+  abbrev pub Blank : List ℕ → Type 0
+  Blank cells = (k : ℕ) → k < p.logic.bytes → slice_index cells k ≡ 0
+
+  -- if only cells were ticked that may be, then so it is
+  abbrev pub KeptSound : List Record → Goal → List ℕ → List ℕ → Type 0
+  KeptSound rs g before after = Sound p.logic.bytes (May rs g) before → Sound p.logic.bytes (May rs g) after
+
   -- what one round does to the cells
   abbrev pub Round : List Record → Goal → List ℕ → List ℕ → Bool → Type 0
   Round rs g = Ticking p.logic.bytes (May rs g) (Complete rs g)
@@ -44,17 +56,10 @@ module _ (p : Plan) where
     pub first_may : (rs : List Record) → May rs g (p.firsts g).0
     pub second_may : (rs : List Record) → May rs g (p.firsts g).1
 
--- records, marks and room with which a question can be asked
-pub record Ready (l : Entailment) (records : List Record) (marks room : ℕ) : Type 0 where
-  pub few : length records ≤ 64
-  pub within : marks < 2 ^ length records
-  pub taken : (x : Record) → In x (marked records marks) → l.TakesRecord x
+-- records that the logic takes, and room for its cells
+pub record Ready (l : Entailment) (rs : List Record) (room : ℕ) : Type 0 where
+  pub taken : Each l.TakesRecord rs
   pub wide : l.bytes ≤ room
-
--- the places are those of the records of a form
-abbrev pub Selects : ℕ → List Record → ℕ → Type 0
-Selects form rs places =
-    (marks : ℕ) (x : Record) → Iff (In x (marked rs (bit_and marks places))) (In x (marked rs marks) × (x.form ≡ form))
 
 -- links: where (a, b) is asked, cell k stands for (a, k)
 abbrev pub links_plan : ℕ → Plan
@@ -75,6 +80,15 @@ Entailed n rs k = Entails rs (k / n, k % n)
 -- rules of el were tried on the cells; if no cell was ticked, then Done holds of them
 abbrev pub Tried : ℕ → List Record → (List ℕ → Type 0) → List ℕ → List ℕ → Bool → Type 0
 Tried n rs = Ticking (n * n) (Entailed n rs)
+
+-- the cell at k is ticked if those at p and q are
+abbrev pub SettledAt : ℕ → Goal → Goal → Goal → List ℕ → Type 0
+SettledAt n p q k = Settled (cell n p) (cell n q) (cell n k)
+
+-- the rule that k follows from p and q was tried
+abbrev pub Derived : ℕ → Goal → Goal → Goal → List ℕ → List ℕ → Bool → Type 0
+Derived n p q k before after changed =
+    (rs : List Record) → (Entails rs p → Entails rs q → Entails rs k) → Tried n rs (SettledAt n p q k) before after changed
 
 -- the cell at a row and a column stands for the goal of the two
 abbrev pub el_plan : ℕ → ℕ → Plan

@@ -1,5 +1,5 @@
 -- What is done to the cells of a work area: cell k is its byte at k, and is ticked when that is not 0.
-use Rattle.std.specs.Prelude.{◌≡◌, ℕ, ◌+◌, ◌<◌, Bool, true, false, cond, List, [], ◌∷◌, drop, ◌==◌, slice_index, slice_index_or, slice_set}
+use Rattle.std.specs.Prelude.{count_by, ◌≡◌, ℕ, ◌<◌, Bool, true, false, List, ◌==◌, slice_index, slice_index_or, slice_set}
 
 -- cell k is ticked
 abbrev pub Ticked : List ℕ → ℕ → Type 0
@@ -18,8 +18,7 @@ pub record Inferred (p q k : ℕ) (before after : List ℕ) : Type 0 where
 
 -- how many cells are not ticked
 abbrev pub blanks : List ℕ → ℕ
-blanks [] = 0
-blanks (x ∷ xs) = cond (x == 0) 1 0 + blanks xs
+blanks = count_by (λ x. x == 0)
 
 -- of the first cells only those are ticked that may be
 abbrev pub Sound : ℕ → (ℕ → Type 0) → List ℕ → Type 0
@@ -27,7 +26,6 @@ Sound bytes May cells = (k : ℕ) → k < bytes → Ticked cells k → May k
 
 -- some of the first cells, that may be, were ticked; if none was, then nothing is left to do
 pub record Ticking (bytes : ℕ) (May : ℕ → Type 0) (Done : List ℕ → Type 0) (before after : List ℕ) (changed : Bool) : Type 0 where
-  pub others : drop bytes after ≡ drop bytes before
   pub kept : (k : ℕ) → Ticked before k → Ticked after k
   pub sound : Sound bytes May before → Sound bytes May after
   pub fewer : changed ≡ true → blanks after < blanks before

@@ -1,24 +1,13 @@
 // The work area: bytes that are cleared, and then ticked one by one.
-ghost use Rattle.std.specs.Prelude.{◌≡◌, ◌<◌, ◌≤◌, true, false, length, slice_index, slice_set};
-ghost use Rattle.logics.specs.Entailment.{Scrubbed};
+ghost use Rattle.std.specs.Prelude.{◌≡◌, ◌<◌, length, slice_index, slice_set};
+ghost use Rattle.std.specs.Bool.{MatchBool};
 ghost use Rattle.logics.specs.WorkArea.{Ticked, Inferred, Settled};
-
-// Makes the first bytes zero.
-pub(crate) fn clear(area: &mut [u8], bytes: usize)
-    requires { bytes ≤ length area.old }
-    ensures { Scrubbed bytes area.old area.new }
-{
-    for i in 0..bytes {
-        area[i] = 0;
-    }
-}
 
 // Ticks a cell, and says whether it was blank.
 pub(crate) fn tick(area: &mut [u8], place: usize) -> bool
     requires { place < length area.old }
     ensures here { Ticked area.new place }
-    ensures blank { result ≡ true → (slice_index area.old place ≡ 0) × (area.new ≡ slice_set area.old place 1) }
-    ensures ticked { result ≡ false → Ticked area.old place × (area.new ≡ area.old) }
+    ensures was { MatchBool result ((slice_index area.old place ≡ 0) × (area.new ≡ slice_set area.old place 1)) (Ticked area.old place × (area.new ≡ area.old)) }
 {
     if area[place] == 0 {
         area[place] = 1;
@@ -30,9 +19,8 @@ pub(crate) fn tick(area: &mut [u8], place: usize) -> bool
 
 // Ticks a cell if two others are ticked, and says whether it was blank then.
 pub(crate) fn infer(area: &mut [u8], p: usize, q: usize, place: usize) -> bool
-    requires { (p < length area.old) × ((q < length area.old) × (place < length area.old)) }
-    ensures inferred { result ≡ true → Inferred p q place area.old area.new }
-    ensures settled { result ≡ false → Settled p q place area.old × (area.new ≡ area.old) }
+    requires { (p < length area.old) × (q < length area.old) × (place < length area.old) }
+    ensures { MatchBool result (Inferred p q place area.old area.new) (Settled p q place area.old × (area.new ≡ area.old)) }
 {
     area[p] != 0 && area[q] != 0 && tick(area, place)
 }

@@ -1,21 +1,38 @@
 // Concepts and roles: what lies in what.
-ghost use Rattle.std.specs.Prelude.{◌≡◌, ◌*◌, ◌<◌, ◌≤◌, true, false, T, length, MatchResult};
-ghost use Rattle.base.specs.Words.{Iff, In};
+ghost use Rattle.std.specs.Prelude.{◌≡◌, ◌*◌, ◌<◌, ◌≤◌, ◌==◌, filter, length, MatchResult};
+ghost use Rattle.base.specs.Words.{In};
 ghost use Rattle.logics.specs.Drawing.{DrawnAt, AllDrawn};
 ghost use Rattle.logics.specs.El.{el, ElLimits};
-ghost use Rattle.logics.specs.Entailment.{marked};
-ghost use Rattle.logics.specs.Plan.{InGrid, Ready, Selects, Tried, cell, el_plan};
-ghost use Rattle.logics.specs.WorkArea.{Inferred, Settled};
+ghost use Rattle.logics.specs.Plan.{Derived, InGrid, Ready, Tried, cell, el_plan};
 ghost use Rattle.logics.specs.declared.LogicFault.TheVariants.{SizeOutOfLimits};
 ghost use Rattle.logics.specs.Entailed.{el_laid, entails_more};
 
 use crate::area::infer;
-use crate::marks::{first_marked, places_of};
-use crate::saturate::{Saturates, decide};
-use crate::{Logic, LogicFault, Record};
+use crate::marked::Marked;
+use crate::saturate::Saturates;
+use crate::{Form, LogicFault, Record};
+
+// The axioms of a round, and those of form 3 among them.
+#[derive(Drop)]
+struct Axioms<'a> {
+    all: Marked<'a>,
+    partners: Marked<'a>,
+    ghost of_form_3: { partners ≡ filter (λ r. r.form == 3) all },
+}
+
+impl<'a> Axioms<'a> {
+    fn new(all: &Marked<'a>) -> Axioms<'a>
+        ensures { result.all ≡ all.now }
+    {
+        Axioms {
+            all: all.iter(),
+            partners: all.of_form(Form::Partner),
+        }
+    }
+}
 
 /// The logic of concepts and roles. Concept 0 is everything.
-#[derive(Clone, Copy)]
+#[derive(Clone, Copy, PartialEq, Eq, Debug)]
 pub struct El {
     concepts: u32,
     roles: u32,
@@ -34,19 +51,7 @@ impl El {
         }
     }
 
-    fn has_concept(&self, number: u16) -> bool
-        ensures { Iff (T result) (number < self.now.concepts) }
-    {
-        (number as u32) < self.concepts
-    }
-
-    fn has_role(&self, number: u16) -> bool
-        ensures { Iff (T result) (number < self.now.roles) }
-    {
-        (number as u32) < self.roles
-    }
-
-    // The cell at a row and a column.
+    // The cell at a row and a column. Kept a pair: a struct would be made at each call and taken apart here alone.
     fn at(&self, place: (usize, usize)) -> usize
         requires { InGrid self.now.concepts place }
         ensures is { result ≡ cell self.now.concepts place }
@@ -67,99 +72,64 @@ impl El {
         requires first { InGrid self.now.concepts first }
         requires second { InGrid self.now.concepts second }
         requires third { InGrid self.now.concepts third }
-        ensures inferred { result ≡ true → Inferred (cell self.now.concepts first) (cell self.now.concepts second) (cell self.now.concepts third) area.old area.new }
-        ensures settled { result ≡ false → Settled (cell self.now.concepts first) (cell self.now.concepts second) (cell self.now.concepts third) area.old × (area.new ≡ area.old) }
+        ensures { Derived self.now.concepts first second third area.old area.new result }
     {
         let p = self.at(first);
         let q = self.at(second);
         infer(area, p, q, self.at(third))
     }
 
-    // Tries a record of form 4 at row x: each partner that a record of form 3 gives x may lie in its concept.
-    fn source(
-        &self,
-        records: &[Record],
-        marks: u64,
-        partners: u64,
-        record: Record,
-        x: usize,
-        area: &mut [u8],
-    ) -> bool
-        requires ready { Ready (el self.now.concepts self.now.roles) records.now marks (length area.old) }
-        requires partners { Selects 3 records.now partners }
+    // Tries an axiom of form 4 at row x: each partner that one of form 3 gives x may lie in its concept.
+    fn source(&self, axioms: &Axioms, source: Record, x: usize, area: &mut [u8]) -> bool
+        requires ready { Ready (el self.now.concepts self.now.roles) axioms.now.all (length area.old) }
         requires row { x < self.now.concepts }
-        requires given { In «record» (marked records.now marks) }
-        requires form { «record».form ≡ 4 }
-        ensures { Tried self.now.concepts (marked records.now marks) (DrawnAt self.now.concepts (marked records.now marks) x «record») area.old area.new result }
+        requires given { In source axioms.now.all }
+        requires form { source.form ≡ 4 }
+        ensures { Tried self.now.concepts axioms.now.all (DrawnAt self.now.concepts axioms.now.all x source) area.old area.new result }
     {
         let mut changed = false;
-        let mut rest = marks & partners;
-        while rest != 0 {
-            let (partner, others) = first_marked(records, rest);
-            if partner.b == record.a {
+        for partner in axioms.partners.iter() {
+            if partner.b == source.a {
                 let has = (x, partner.a as usize);
-                let lies = (partner.c as usize, record.b as usize);
-                let new = self.derive(area, has, lies, (x, record.c as usize));
-                changed = changed | new;
+                let lies = (partner.c as usize, source.b as usize);
+                changed |= self.derive(area, has, lies, (x, source.c as usize));
             }
-            rest = others;
         }
         changed
     }
 
-    // Tries a record at row x.
-    fn settle(
-        &self,
-        records: &[Record],
-        marks: u64,
-        partners: u64,
-        record: Record,
-        x: usize,
-        area: &mut [u8],
-    ) -> bool
-        requires ready { Ready (el self.now.concepts self.now.roles) records.now marks (length area.old) }
-        requires partners { Selects 3 records.now partners }
+    // Tries an axiom at row x.
+    fn settle(&self, axioms: &Axioms, axiom: Record, x: usize, area: &mut [u8]) -> bool
+        requires ready { Ready (el self.now.concepts self.now.roles) axioms.now.all (length area.old) }
         requires row { x < self.now.concepts }
-        requires given { In «record» (marked records.now marks) }
-        ensures { Tried self.now.concepts (marked records.now marks) (DrawnAt self.now.concepts (marked records.now marks) x «record») area.old area.new result }
+        requires given { In «axiom» axioms.now.all }
+        ensures { Tried self.now.concepts axioms.now.all (DrawnAt self.now.concepts axioms.now.all x «axiom») area.old area.new result }
     {
-        let (a, b, c) = (record.a as usize, record.b as usize, record.c as usize);
-        match record.form {
-            1 => self.derive(area, (x, a), (x, a), (x, b)),
-            2 => self.derive(area, (x, a), (x, b), (x, c)),
-            3 => {
+        let (a, b, c) = (axiom.a as usize, axiom.b as usize, axiom.c as usize);
+        match Form::try_from(axiom.form) {
+            Ok(Form::Lies) => self.derive(area, (x, a), (x, a), (x, b)),
+            Ok(Form::Both) => self.derive(area, (x, a), (x, b), (x, c)),
+            Ok(Form::Partner) => {
                 let top = self.derive(area, (x, a), (x, a), (c, 0));
                 let own = self.derive(area, (x, a), (x, a), (c, c));
                 top | own
             }
-            _ => self.source(records, marks, partners, record, x, area),
+            Ok(Form::Source) => self.source(axioms, axiom, x, area),
+            Ok(Form::Link) | Err(_) => unreachable!(),
         }
     }
 
-    // Tries every marked record at row x, if that is reached.
-    fn sweep(
-        &self,
-        records: &[Record],
-        marks: u64,
-        partners: u64,
-        x: usize,
-        area: &mut [u8],
-    ) -> bool
-        requires ready { Ready (el self.now.concepts self.now.roles) records.now marks (length area.old) }
-        requires partners { Selects 3 records.now partners }
+    // Tries every axiom at row x, if that is reached.
+    fn sweep(&self, axioms: &Axioms, x: usize, area: &mut [u8]) -> bool
+        requires ready { Ready (el self.now.concepts self.now.roles) axioms.now.all (length area.old) }
         requires row { x < self.now.concepts }
-        ensures { Tried self.now.concepts (marked records.now marks) (AllDrawn self.now.concepts (marked records.now marks) x) area.old area.new result }
+        ensures { Tried self.now.concepts axioms.now.all (AllDrawn self.now.concepts axioms.now.all x) area.old area.new result }
     {
-        if area[self.at((x, 0))] == 0 {
-            return false;
-        }
         let mut changed = false;
-        let mut rest = marks;
-        while rest != 0 {
-            let (record, others) = first_marked(records, rest);
-            let new = self.settle(records, marks, partners, record, x, area);
-            changed = changed | new;
-            rest = others;
+        if area[self.at((x, 0))] != 0 {
+            for axiom in axioms.all.iter() {
+                changed |= self.settle(axioms, axiom, x, area);
+            }
         }
         changed
     }
@@ -170,24 +140,21 @@ impl Saturates for El {
 
     ghost laid = { λ s. el_laid s.concepts s.roles };
 
+    ghost grows = { λ s xs ys. entails_more xs ys };
+
     fn cells(&self) -> usize {
         let n = self.concepts as usize;
         n * n
     }
 
     fn takes(&self, record: Record) -> bool {
-        match record.form {
-            1 => self.has_concept(record.a) && self.has_concept(record.b) && record.c == 0,
-            2 => self.has_concept(record.a)
-                && self.has_concept(record.b)
-                && self.has_concept(record.c),
-            3 => self.has_concept(record.a)
-                && self.has_role(record.b)
-                && self.has_concept(record.c),
-            4 => self.has_role(record.a)
-                && self.has_concept(record.b)
-                && self.has_concept(record.c),
-            _ => false,
+        let (a, b, c) = (record.a as u32, record.b as u32, record.c as u32);
+        match Form::try_from(record.form) {
+            Ok(Form::Lies) => a < self.concepts && b < self.concepts && c == 0,
+            Ok(Form::Both) => a < self.concepts && b < self.concepts && c < self.concepts,
+            Ok(Form::Partner) => a < self.concepts && b < self.roles && c < self.concepts,
+            Ok(Form::Source) => a < self.roles && b < self.concepts && c < self.concepts,
+            Ok(Form::Link) | Err(_) => false,
         }
     }
 
@@ -204,35 +171,12 @@ impl Saturates for El {
         (self.at((x, 0)), self.at((x, x)))
     }
 
-    fn round(&self, records: &[Record], marks: u64, goal: (u32, u32), area: &mut [u8]) -> bool {
-        let partners = places_of(records, 3);
+    fn round(&self, given: &Marked, area: &mut [u8]) -> bool {
+        let axioms = Axioms::new(given);
         let mut changed = false;
         for x in 0..self.concepts as usize {
-            let new = self.sweep(records, marks, partners, x, area);
-            changed = changed | new;
+            changed |= self.sweep(&axioms, x, area);
         }
         changed
-    }
-}
-
-impl Logic for El {
-    ghost meaning = { λ l. el l.concepts l.roles };
-
-    ghost monotone = { λ l xs ys. entails_more xs ys };
-
-    fn work_bytes(&self) -> usize {
-        self.cells()
-    }
-
-    fn takes_record(&self, record: Record) -> bool {
-        self.takes(record)
-    }
-
-    fn takes_goal(&self, goal: (u32, u32)) -> bool {
-        self.poses(goal)
-    }
-
-    fn follows(&self, records: &[Record], marks: u64, goal: (u32, u32), area: &mut [u8]) -> bool {
-        decide(self, records, marks, goal, area)
     }
 }

@@ -9,14 +9,17 @@ ghost use Rattle.logics.specs.declared.LogicFault.TheVariants.{RecordNotTaken, G
 
 mod area;
 mod el;
+mod form;
 mod links;
-mod marks;
+mod marked;
 mod saturate;
 
 pub use el::El;
+pub use form::{Form, UnknownForm};
 pub use links::Links;
 
-/// An axiom: its form, and three numbers that the form reads.
+/// An axiom as it is written: the number of its form, and three numbers that the form reads.
+// kept: `form` is a number and not a `Form`, as a record may be written with any number
 #[derive(Clone, Copy, PartialEq, Eq, Debug, Default)]
 pub struct Record {
     pub form: u16,
@@ -28,9 +31,9 @@ pub struct Record {
 /// Why a logic was not made, or did not take a record or a goal.
 #[derive(Clone, Copy, PartialEq, Eq, Debug)]
 pub enum LogicFault {
-    SizeOutOfLimits,
-    RecordNotTaken,
-    GoalNotTaken,
+    SizeOutOfLimits = 7,
+    RecordNotTaken = 9,
+    GoalNotTaken = 13,
 }
 
 impl LogicFault {
@@ -38,15 +41,12 @@ impl LogicFault {
     pub fn number(self) -> u32
         ensures { result ≡ numbered self }
     {
-        match self {
-            LogicFault::SizeOutOfLimits => 7,
-            LogicFault::RecordNotTaken => 9,
-            LogicFault::GoalNotTaken => 13,
-        }
+        self as u32
     }
 }
 
 /// A logic, by its meaning: the records and goals that it takes, the bytes that it works in, and what follows.
+// kept: a goal is a pair of numbers, and records come beside the bits of the marked ones, as the layers above hold them
 pub trait Logic: Drop {
     ghost meaning: { Self → Entailment };
 
@@ -73,20 +73,14 @@ pub trait Logic: Drop {
 pub fn take_record<L: Logic>(logic: &L, record: Record) -> Result<(), LogicFault>
     ensures { MatchResult result (λ _. (L.meaning logic.now).TakesRecord «record») (λ f. (f ≡ RecordNotTaken) × ((L.meaning logic.now).TakesRecord «record» → ⊥)) }
 {
-    if logic.takes_record(record) {
-        Ok(())
-    } else {
-        Err(LogicFault::RecordNotTaken)
-    }
+    let taken = logic.takes_record(record);
+    taken.then_some(()).ok_or(LogicFault::RecordNotTaken)
 }
 
 /// Refuses a goal that the logic does not take.
 pub fn take_goal<L: Logic>(logic: &L, goal: (u32, u32)) -> Result<(), LogicFault>
     ensures { MatchResult result (λ _. (L.meaning logic.now).TakesGoal goal) (λ f. (f ≡ GoalNotTaken) × ((L.meaning logic.now).TakesGoal goal → ⊥)) }
 {
-    if logic.takes_goal(goal) {
-        Ok(())
-    } else {
-        Err(LogicFault::GoalNotTaken)
-    }
+    let taken = logic.takes_goal(goal);
+    taken.then_some(()).ok_or(LogicFault::GoalNotTaken)
 }

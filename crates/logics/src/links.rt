@@ -6,12 +6,12 @@ ghost use Rattle.logics.specs.declared.LogicFault.TheVariants.{SizeOutOfLimits};
 ghost use Rattle.logics.specs.Chains.{links_laid, leads_more};
 
 use crate::area::infer;
-use crate::marks::first_marked;
-use crate::saturate::{Saturates, decide};
-use crate::{Logic, LogicFault, Record};
+use crate::marked::Marked;
+use crate::saturate::Saturates;
+use crate::{Form, LogicFault, Record};
 
 /// The logic of links between points.
-#[derive(Clone, Copy)]
+#[derive(Clone, Copy, PartialEq, Eq, Debug)]
 pub struct Links {
     points: u32,
     ghost limits: { PointLimits points },
@@ -35,12 +35,14 @@ impl Saturates for Links {
 
     ghost laid = { λ s. links_laid s.points };
 
+    ghost grows = { λ s xs ys sub. leads_more sub };
+
     fn cells(&self) -> usize {
         self.points as usize
     }
 
     fn takes(&self, record: Record) -> bool {
-        record.form == 5
+        Form::try_from(record.form) == Ok(Form::Link)
             && (record.a as u32) < self.points
             && (record.b as u32) < self.points
             && record.c == 0
@@ -58,37 +60,12 @@ impl Saturates for Links {
         (goal.0 as usize, goal.0 as usize)
     }
 
-    fn round(&self, records: &[Record], marks: u64, goal: (u32, u32), area: &mut [u8]) -> bool {
+    fn round(&self, given: &Marked, area: &mut [u8]) -> bool {
         let mut changed = false;
-        let mut rest = marks;
-        while rest != 0 {
-            let (link, others) = first_marked(records, rest);
-            let new = infer(area, link.a as usize, link.a as usize, link.b as usize);
-            changed = changed | new;
-            rest = others;
+        for link in given.iter() {
+            let (from, to) = (link.a as usize, link.b as usize);
+            changed |= infer(area, from, from, to);
         }
         changed
-    }
-}
-
-impl Logic for Links {
-    ghost meaning = { λ l. links l.points };
-
-    ghost monotone = { λ l xs ys sub. leads_more sub };
-
-    fn work_bytes(&self) -> usize {
-        self.cells()
-    }
-
-    fn takes_record(&self, record: Record) -> bool {
-        self.takes(record)
-    }
-
-    fn takes_goal(&self, goal: (u32, u32)) -> bool {
-        self.poses(goal)
-    }
-
-    fn follows(&self, records: &[Record], marks: u64, goal: (u32, u32), area: &mut [u8]) -> bool {
-        decide(self, records, marks, goal, area)
     }
 }

@@ -1,17 +1,16 @@
 // Deciding a goal by ticking cells: two at first, and then round by round what follows from those that are ticked.
-ghost use Rattle.std.specs.Prelude.{◌≡◌, ℕ, ◌^◌, ◌<◌, ◌≤◌, T, List, length, drop, slice_index};
-ghost use Rattle.base.specs.Words.{Iff, In};
-ghost use Rattle.logics.specs.Entailment.{Goal, Askable, marked, Scrubbed};
-ghost use Rattle.logics.specs.Plan.{Plan, Begun, May, Round, Laid};
-ghost use Rattle.logics.specs.WorkArea.{Sound};
+ghost use Rattle.std.specs.Prelude.{◌≡◌, ◌≤◌, T, List, length};
+ghost use Rattle.base.specs.Words.{Iff};
+ghost use Rattle.logics.specs.Entailment.{Each, Goal, Monotone};
+ghost use Rattle.logics.specs.Plan.{Plan, Answered, Begun, Blank, KeptSound, Ready, Round, Laid};
 ghost use Rattle.logics.specs.declared.Record.{Record as Axiom};
 
-use crate::Record;
-use crate::area::{clear, tick};
-use crate::marks::first_marked;
+use crate::area::tick;
+use crate::marked::Marked;
+use crate::{Logic, Record};
 
 // A logic that is decided so: the layout of its questions, and one round.
-pub(crate) trait Saturates {
+pub(crate) trait Saturates: Drop {
     ghost plan: { Self → Plan };
 
     fn cells(&self) -> usize
@@ -34,61 +33,28 @@ pub(crate) trait Saturates {
         ensures { result ≡ (plan self.now).firsts goal };
 
     // Ticks what follows from the cells that are ticked, and says whether there was any.
-    fn round(&self, records: &[Record], marks: u64, goal: (u32, u32), area: &mut [u8]) -> bool
-        requires { Askable (plan self.now).logic records.now marks goal (length area.old) }
-        ensures { Round (plan self.now) (marked records.now marks) goal area.old area.new result };
+    fn round(&self, given: &Marked, area: &mut [u8]) -> bool
+        requires { Ready (plan self.now).logic given.now (length area.old) }
+        ensures { (g : Goal) → (plan self.now).logic.TakesGoal g → Round (plan self.now) given.now g area.old area.new result };
 
     ghost laid: { (s : Self) (g : Goal) → (plan s).logic.TakesGoal g → Laid (plan s) g };
+
+    ghost grows: { (s : Self) → Monotone (plan s).logic };
 }
 
-// Are all the marks within the list?
-fn within(marks: u64, len: usize) -> bool
-    requires { len ≤ 64 }
-    ensures { Iff (T result) (marks < 2 ^ len) }
+// Does the logic take every one of the records?
+fn takes_all<S: Saturates>(logic: &S, given: &Marked) -> bool
+    ensures { Iff (T result) (Each (S.plan logic.now).logic.TakesRecord given.now) }
 {
-    len == 64 || marks >> len == 0
-}
-
-// Does the logic take every marked record?
-fn all_taken<S: Saturates>(logic: &S, records: &[Record], marks: u64) -> bool
-    requires few { length records.now ≤ 64 }
-    requires within { marks < 2 ^ length records.now }
-    ensures { Iff (T result) ((x : Axiom) → In x (marked records.now marks) → (S.plan logic.now).logic.TakesRecord x) }
-{
-    let mut rest = marks;
-    while rest != 0 {
-        let (record, others) = first_marked(records, rest);
-        if !logic.takes(record) {
-            return false;
-        }
-        rest = others;
-    }
-    true
-}
-
-// Can the question be asked?
-fn askable<S: Saturates>(
-    logic: &S,
-    records: &[Record],
-    marks: u64,
-    goal: (u32, u32),
-    room: usize,
-) -> bool
-    ensures { Iff (T result) (Askable (S.plan logic.now).logic records.now marks goal room) }
-{
-    if records.len() > 64 || logic.cells() > room {
-        return false;
-    }
-    within(marks, records.len()) && logic.poses(goal) && all_taken(logic, records, marks)
+    given.iter().all(|record| logic.takes(record))
 }
 
 // Ticks the first cells.
 fn start<S: Saturates>(logic: &S, goal: (u32, u32), area: &mut [u8])
     requires posed { (S.plan logic.now).logic.TakesGoal goal }
     requires wide { (S.plan logic.now).logic.bytes ≤ length area.old }
-    ensures others { drop (S.plan logic.now).logic.bytes area.new ≡ drop (S.plan logic.now).logic.bytes area.old }
     ensures begun { Begun (S.plan logic.now) goal area.new }
-    ensures sound { (rs : List Axiom) → Sound (S.plan logic.now).logic.bytes (May (S.plan logic.now) rs goal) area.old → Sound (S.plan logic.now).logic.bytes (May (S.plan logic.now) rs goal) area.new }
+    ensures sound { (rs : List Axiom) → KeptSound (S.plan logic.now) rs goal area.old area.new }
 {
     let (first, second) = logic.firsts(goal);
     tick(area, first);
@@ -96,46 +62,50 @@ fn start<S: Saturates>(logic: &S, goal: (u32, u32), area: &mut [u8])
 }
 
 // Is the goal's cell ticked in the end? The area comes in blank.
-fn reach<S: Saturates>(
-    logic: &S,
-    records: &[Record],
-    marks: u64,
-    goal: (u32, u32),
-    area: &mut [u8],
-) -> bool
-    requires asked { Askable (S.plan logic.now).logic records.now marks goal (length area.old) }
-    requires blank { (k : ℕ) → k < (S.plan logic.now).logic.bytes → slice_index area.old k ≡ 0 }
-    ensures answered { Iff (T result) ((S.plan logic.now).logic.Follows (marked records.now marks) goal) }
-    ensures others { drop (S.plan logic.now).logic.bytes area.new ≡ drop (S.plan logic.now).logic.bytes area.old }
+fn reach<S: Saturates>(logic: &S, given: &Marked, goal: (u32, u32), area: &mut [u8]) -> bool
+    requires ready { Ready (S.plan logic.now).logic given.now (length area.old) }
+    requires posed { (S.plan logic.now).logic.TakesGoal goal }
+    requires blank { Blank (S.plan logic.now) area.old }
+    ensures { Answered (S.plan logic.now) given.now goal result }
 {
     start(logic, goal, area);
     let place = logic.place(goal);
     while area[place] == 0 {
-        if !logic.round(records, marks, goal, area) {
+        if !logic.round(given, area) {
             return false;
         }
     }
     true
 }
 
-// The answer to a question, by the logic's meaning.
-pub(crate) fn decide<S: Saturates>(
-    logic: &S,
-    records: &[Record],
-    marks: u64,
-    goal: (u32, u32),
-    area: &mut [u8],
-) -> bool
-    ensures answered { Askable (S.plan logic.now).logic records.now marks goal (length area.old) → Iff (T result) ((S.plan logic.now).logic.Follows (marked records.now marks) goal) × Scrubbed (S.plan logic.now).logic.bytes area.old area.new }
-    ensures asked { T result → Askable (S.plan logic.now).logic records.now marks goal (length area.old) }
-    ensures declined { (Askable (S.plan logic.now).logic records.now marks goal (length area.old) → ⊥) → (T result → ⊥) × (area.new ≡ area.old) }
-{
-    if !askable(logic, records, marks, goal, area.len()) {
-        return false;
+impl<S: Saturates> Logic for S {
+    ghost meaning = { λ l. (S.plan l).logic };
+
+    ghost monotone = { S.grows };
+
+    fn work_bytes(&self) -> usize {
+        self.cells()
     }
-    let bytes = logic.cells();
-    clear(area, bytes);
-    let found = reach(logic, records, marks, goal, area);
-    clear(area, bytes);
-    found
+
+    fn takes_record(&self, record: Record) -> bool {
+        self.takes(record)
+    }
+
+    fn takes_goal(&self, goal: (u32, u32)) -> bool {
+        self.poses(goal)
+    }
+
+    fn follows(&self, records: &[Record], marks: u64, goal: (u32, u32), area: &mut [u8]) -> bool {
+        let Some(given) = Marked::new(records, marks) else {
+            return false;
+        };
+        if self.cells() > area.len() || !self.poses(goal) || !takes_all(self, &given) {
+            return false;
+        }
+        let cells = &mut area[..self.cells()];
+        cells.fill(0);
+        let found = reach(self, &given, goal, cells);
+        cells.fill(0);
+        found
+    }
 }

@@ -21,10 +21,7 @@ pub fn ask_el(
 ) -> bool
     ensures { ElLimits concepts roles → Askable (el concepts roles) records.now marks goal (length area.old) → Iff (T result) (Entails (marked records.now marks) goal) }
 {
-    match El::new(concepts, roles) {
-        Ok(logic) => logic.follows(records, marks, goal, area),
-        Err(_) => false,
-    }
+    El::new(concepts, roles).is_ok_and(|logic| logic.follows(records, marks, goal, area))
 }
 
 /// Asks links between some points. Yes says that a chain of links leads there, and no that none does.
@@ -37,15 +34,12 @@ pub fn ask_links(
 ) -> bool
     ensures { PointLimits points → Askable (links points) records.now marks goal (length area.old) → Iff (T result) (Leads (marked records.now marks) goal) }
 {
-    match Links::new(points) {
-        Ok(logic) => logic.follows(records, marks, goal, area),
-        Err(_) => false,
-    }
+    Links::new(points).is_ok_and(|logic| logic.follows(records, marks, goal, area))
 }
 
 #[cfg(test)]
 mod tests {
-    use logics::{El, Links, Logic, LogicFault, Record, take_goal, take_record};
+    use logics::{El, Form, Links, Logic, LogicFault, Record, UnknownForm, take_goal, take_record};
     use std::process::Abort;
     use std::test::Fail;
 
@@ -56,129 +50,166 @@ mod tests {
     const NONE: Row = (9, 999, 999, 999);
 
     // What is asked, with the bits of the marked rows, and the answer.
-    type Case = (&'static str, [Row; 3], u64, (u32, u32), bool);
+    #[derive(Clone, Copy)]
+    struct Case {
+        name: &'static str,
+        rows: [Row; 3],
+        marks: u64,
+        goal: (u32, u32),
+        follows: bool,
+    }
 
     const EL: [Case; 16] = [
-        ("form 1", [(1, 1, 2, 0), NONE, NONE], 1, (1, 2), true),
-        (
-            "form 1, turned round",
-            [(1, 1, 2, 0), NONE, NONE],
-            1,
-            (2, 1),
-            false,
-        ),
-        (
-            "form 2",
-            [(1, 1, 2, 0), (2, 1, 2, 3), NONE],
-            3,
-            (1, 3),
-            true,
-        ),
-        (
-            "form 2 with one concept",
-            [NONE, (2, 1, 2, 3), NONE],
-            2,
-            (1, 3),
-            false,
-        ),
-        (
-            "forms 3 and 4",
-            [(3, 1, 0, 2), (4, 0, 2, 3), NONE],
-            3,
-            (1, 3),
-            true,
-        ),
-        (
-            "form 3 alone",
-            [(3, 1, 0, 2), (4, 0, 2, 3), NONE],
-            1,
-            (1, 3),
-            false,
-        ),
-        (
-            "form 4 alone",
-            [(3, 1, 0, 2), (4, 0, 2, 3), NONE],
-            2,
-            (1, 3),
-            false,
-        ),
-        (
-            "another role",
-            [(3, 1, 1, 2), (4, 0, 2, 3), NONE],
-            3,
-            (1, 3),
-            false,
-        ),
-        (
-            "a partner of its own kind",
-            [(3, 1, 0, 1), (4, 0, 1, 2), (4, 0, 2, 3)],
-            7,
-            (1, 3),
-            true,
-        ),
-        (
-            "no more from it",
-            [(3, 1, 0, 1), (4, 0, 1, 2), (4, 0, 2, 3)],
-            7,
-            (1, 4),
-            false,
-        ),
-        ("in everything", [NONE, NONE, NONE], 0, (5, 0), true),
-        ("everything in one", [NONE, NONE, NONE], 0, (0, 5), false),
-        (
-            "everything, on the left",
-            [(1, 0, 3, 0), NONE, NONE],
-            1,
-            (5, 3),
-            true,
-        ),
-        (
-            "everything, as a partner",
-            [(3, 0, 2, 4), (4, 2, 0, 6), NONE],
-            3,
-            (1, 6),
-            true,
-        ),
-        ("the same concept", [NONE, NONE, NONE], 0, (7, 7), true),
-        (
-            "a row that is not marked",
-            [NONE, NONE, (1, 1, 2, 0)],
-            4,
-            (1, 2),
-            true,
-        ),
+        Case {
+            name: "form 1",
+            rows: [(1, 1, 2, 0), NONE, NONE],
+            marks: 1,
+            goal: (1, 2),
+            follows: true,
+        },
+        Case {
+            name: "form 1, turned round",
+            rows: [(1, 1, 2, 0), NONE, NONE],
+            marks: 1,
+            goal: (2, 1),
+            follows: false,
+        },
+        Case {
+            name: "form 2",
+            rows: [(1, 1, 2, 0), (2, 1, 2, 3), NONE],
+            marks: 3,
+            goal: (1, 3),
+            follows: true,
+        },
+        Case {
+            name: "form 2 with one concept",
+            rows: [NONE, (2, 1, 2, 3), NONE],
+            marks: 2,
+            goal: (1, 3),
+            follows: false,
+        },
+        Case {
+            name: "forms 3 and 4",
+            rows: [(3, 1, 0, 2), (4, 0, 2, 3), NONE],
+            marks: 3,
+            goal: (1, 3),
+            follows: true,
+        },
+        Case {
+            name: "form 3 alone",
+            rows: [(3, 1, 0, 2), (4, 0, 2, 3), NONE],
+            marks: 1,
+            goal: (1, 3),
+            follows: false,
+        },
+        Case {
+            name: "form 4 alone",
+            rows: [(3, 1, 0, 2), (4, 0, 2, 3), NONE],
+            marks: 2,
+            goal: (1, 3),
+            follows: false,
+        },
+        Case {
+            name: "another role",
+            rows: [(3, 1, 1, 2), (4, 0, 2, 3), NONE],
+            marks: 3,
+            goal: (1, 3),
+            follows: false,
+        },
+        Case {
+            name: "a partner of its own kind",
+            rows: [(3, 1, 0, 1), (4, 0, 1, 2), (4, 0, 2, 3)],
+            marks: 7,
+            goal: (1, 3),
+            follows: true,
+        },
+        Case {
+            name: "no more from it",
+            rows: [(3, 1, 0, 1), (4, 0, 1, 2), (4, 0, 2, 3)],
+            marks: 7,
+            goal: (1, 4),
+            follows: false,
+        },
+        Case {
+            name: "in everything",
+            rows: [NONE, NONE, NONE],
+            marks: 0,
+            goal: (5, 0),
+            follows: true,
+        },
+        Case {
+            name: "everything in one",
+            rows: [NONE, NONE, NONE],
+            marks: 0,
+            goal: (0, 5),
+            follows: false,
+        },
+        Case {
+            name: "everything, on the left",
+            rows: [(1, 0, 3, 0), NONE, NONE],
+            marks: 1,
+            goal: (5, 3),
+            follows: true,
+        },
+        Case {
+            name: "everything, as a partner",
+            rows: [(3, 0, 2, 4), (4, 2, 0, 6), NONE],
+            marks: 3,
+            goal: (1, 6),
+            follows: true,
+        },
+        Case {
+            name: "the same concept",
+            rows: [NONE, NONE, NONE],
+            marks: 0,
+            goal: (7, 7),
+            follows: true,
+        },
+        Case {
+            name: "a row that is not marked",
+            rows: [NONE, NONE, (1, 1, 2, 0)],
+            marks: 4,
+            goal: (1, 2),
+            follows: true,
+        },
     ];
 
     const LINKS: [Case; 5] = [
-        (
-            "a chain",
-            [(5, 2, 3, 0), (5, 1, 2, 0), (5, 0, 1, 0)],
-            7,
-            (0, 3),
-            true,
-        ),
-        (
-            "a chain, turned round",
-            [(5, 2, 3, 0), (5, 1, 2, 0), (5, 0, 1, 0)],
-            7,
-            (3, 0),
-            false,
-        ),
-        (
-            "a chain with a gap",
-            [(5, 2, 3, 0), (5, 1, 2, 0), (5, 0, 1, 0)],
-            5,
-            (0, 3),
-            false,
-        ),
-        (
-            "round a ring",
-            [(5, 2, 3, 0), (5, 3, 1, 0), (5, 1, 2, 0)],
-            7,
-            (3, 2),
-            true,
-        ),
-        ("the same point", [NONE, NONE, NONE], 0, (63, 63), true),
+        Case {
+            name: "a chain",
+            rows: [(5, 2, 3, 0), (5, 1, 2, 0), (5, 0, 1, 0)],
+            marks: 7,
+            goal: (0, 3),
+            follows: true,
+        },
+        Case {
+            name: "a chain, turned round",
+            rows: [(5, 2, 3, 0), (5, 1, 2, 0), (5, 0, 1, 0)],
+            marks: 7,
+            goal: (3, 0),
+            follows: false,
+        },
+        Case {
+            name: "a chain with a gap",
+            rows: [(5, 2, 3, 0), (5, 1, 2, 0), (5, 0, 1, 0)],
+            marks: 5,
+            goal: (0, 3),
+            follows: false,
+        },
+        Case {
+            name: "round a ring",
+            rows: [(5, 2, 3, 0), (5, 3, 1, 0), (5, 1, 2, 0)],
+            marks: 7,
+            goal: (3, 2),
+            follows: true,
+        },
+        Case {
+            name: "the same point",
+            rows: [NONE, NONE, NONE],
+            marks: 0,
+            goal: (63, 63),
+            follows: true,
+        },
     ];
 
     // What el cannot be asked.
@@ -189,13 +220,8 @@ mod tests {
         ([(3, 1, 4, 2), NONE, NONE], 1, (1, 2)),
     ];
 
-    fn axiom(row: Row) -> Record {
-        let (form, a, b, c) = row;
+    fn axiom((form, a, b, c): Row) -> Record {
         Record { form, a, b, c }
-    }
-
-    fn axioms(rows: [Row; 3]) -> [Record; 3] {
-        [axiom(rows[0]), axiom(rows[1]), axiom(rows[2])]
     }
 
     // What a logic that works in 64 bytes answers: they come in as 255s, and are zero afterwards.
@@ -228,12 +254,11 @@ mod tests {
     fn el_answers(rt: HostRuntime) -> Result<(), Fail> {
         let el = El::new(8, 4)?;
         for case in EL {
-            let (name, rows, marks, goal, expected) = case;
             assert_eq!(rt;
-                ask(&rt, &el, &axioms(rows), marks, goal),
-                expected,
+                ask(&rt, &el, &case.rows.map(axiom), case.marks, case.goal),
+                case.follows,
                 "{}",
-                name
+                case.name
             );
         }
         Ok(())
@@ -243,12 +268,11 @@ mod tests {
     fn links_answers(rt: HostRuntime) -> Result<(), Fail> {
         let links = Links::new(64)?;
         for case in LINKS {
-            let (name, rows, marks, goal, expected) = case;
             assert_eq!(rt;
-                ask(&rt, &links, &axioms(rows), marks, goal),
-                expected,
+                ask(&rt, &links, &case.rows.map(axiom), case.marks, case.goal),
+                case.follows,
                 "{}",
-                name
+                case.name
             );
         }
         assert!(rt; declined(&links, &[axiom((5, 0, 1, 1))], 1, (0, 1)));
@@ -258,9 +282,8 @@ mod tests {
     #[test]
     fn el_declines(rt: HostRuntime) -> Result<(), Fail> {
         let el = El::new(8, 4)?;
-        for case in DECLINED {
-            let (rows, marks, goal) = case;
-            assert!(rt; declined(&el, &axioms(rows), marks, goal));
+        for (rows, marks, goal) in DECLINED {
+            assert!(rt; declined(&el, &rows.map(axiom), marks, goal));
         }
         let larger = El::new(9, 4)?;
         assert!(rt; declined(&larger, &[], 0, (1, 1)), "a short area");
@@ -287,6 +310,13 @@ mod tests {
         assert!(rt; El::new(0, 0).is_err() && El::new(129, 0).is_err() && El::new(1, 33).is_err());
         assert!(rt; Links::new(0).is_err() && Links::new(129).is_err());
         Ok(())
+    }
+
+    #[test]
+    fn forms(rt: HostRuntime) {
+        assert_eq!(rt; Form::try_from(4), Ok(Form::Source));
+        assert_eq!(rt; Form::try_from(9), Err(UnknownForm(9)));
+        assert_eq!(rt; u16::from(Form::Both), 2);
     }
 
     #[test]

@@ -1,3 +1,4 @@
 pub mod Lists
+pub mod Rankings
 pub mod Sets
 pub mod SetsLemmas

@@ -1,6 +1,6 @@
 -- The order of sets by the smallest place in which they differ.
 use Rattle.std.specs.Prelude.{◌≡◌, ℕ, zero, suc, ◌+◌, ◌/◌, ◌%◌, ◌^◌, ◌<◌, ◌⊎◌, bit_xor, refl}
-use Rattle.std.proofs.Common.{ap, subst, ◌∙◌, inl, inr, ⊎_elim, arith}
+use Rattle.std.proofs.Common.{ap, ◌∙◌, inl, inr, ⊎_elim, arith}
 use Rattle.std.proofs.Math.Decide.{dec_lt, ℕ_discrete}
 use Rattle.std.proofs.lemmas.Nat.{xor_shr}
 use Rattle.std.specs.Int.Bits.{xor_add_and}
@@ -8,7 +8,8 @@ use Rattle.std.specs.Int.Count.{count_trailing_zeros, under}
 use Rattle.base.specs.Bits.{Has}
 use Rattle.base.specs.Words.{Iff}
 use Rattle.base.proofs.Sets.{has_or_not, has_zero, has_first, has_next, has_below, same_set, some_place}
-use Rattle.ordered.specs.Lists.{Ranking, Level}
+use Rattle.ordered.specs.Lists.{Ranking}
+use Rattle.ordered.specs.Rankings.{total_ranking}
 use Rattle.ordered.specs.Sets.{Before}
 
 under_lack : (d t n : ℕ) → n % 2 ≡ d → ((i : ℕ) → i < t → Has (n / 2) i → ⊥) → (i : ℕ) → i < under d t → Has n i → ⊥
@@ -71,10 +72,6 @@ before_total s t = ⊎_elim same apart (some_place (bit_xor s t))
         let second = λ (g : Has s p → ⊥). inr (record { place = p; holds = xor_other s t p here g; lacks = g; alike = λ j lt. ((alike j lt).1, (alike j lt).0) }) in
         inr (⊎_elim first second (has_or_not s p))
 
--- two sets that are level are one
-pub level_same : (s t : ℕ) → Level Before s t → s ≡ t
-level_same s t level = ⊎_elim (λ e. e) (⊎_elim (λ b. absurd (level.0 b)) (λ b. absurd (level.1 b))) (before_total s t)
-
 before_irreflexive : (s : ℕ) → Before s s → ⊥
 before_irreflexive s b = b.lacks b.holds
 
@@ -98,13 +95,9 @@ before_transitive s t u b c =
     both : (i : ℕ) → i < b.place → i < c.place → Iff (Has s i) (Has u i)
     both i h g = (λ x. (c.alike i g).0 ((b.alike i h).0 x), λ x. (b.alike i h).1 ((c.alike i g).1 x))
 
-before_splits : (s t u : ℕ) → Before s t → Before s u ⊎ Before u t
-before_splits s t u b =
-    ⊎_elim (λ e. inr (subst (λ (x : ℕ). Before x t) e b)) (⊎_elim inl (λ c. inr (before_transitive u s t c b))) (before_total s u)
-
 -- the laws of the order
 pub before_ranking : Ranking Before
-before_ranking = record { irreflexive = before_irreflexive; transitive = before_transitive; splits = before_splits }
+before_ranking = total_ranking before_total before_irreflexive before_transitive
 
 -- s comes before t when it holds the smallest place of s ^ t
 pub first_differs : (w s t : ℕ) → s < 2 ^ w → Iff (Has s (count_trailing_zeros w (bit_xor s t))) (Before s t)

@@ -48,8 +48,8 @@ impl<'a> Print<'a> {
         }
     }
 
-    // A number, in decimal digits. Kept: a rule of the project, that below this crate only `std` is trusted, leaves no crate that
-    // writes digits, and the error of `write!` has no contract that rules it out.
+    // A number, in decimal digits.
+    // Kept: `write!` may answer an error, which no contract of std rules out here, and any other crate is one more to trust.
     pub fn number(&mut self, n: u64)
         ensures { Adds (decimal n) self.old self.new }
     {
@@ -96,8 +96,8 @@ impl<'a> Print<'a> {
         self.byte(b'\n');
     }
 
-    // The axioms of a set, ascending, a comma before each. Kept: it loops over places, and not over a slice; with `filter` the goal
-    // after the loop did not close.
+    // The axioms of a set, ascending, a comma before each.
+    // Kept: the loop counts places, and no slice; with `filter` the proof of which places it went over did not close.
     fn axioms(&mut self, set: u64)
         ensures { Adds (numbers (axioms set)) self.old self.new }
     {

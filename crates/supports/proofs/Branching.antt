@@ -5,14 +5,9 @@ use lib.Bits.{bit_and, bit_or}
 use Rattle.base.specs.Bits.{Has}
 use Rattle.base.specs.Words.{Iff}
 use Rattle.base.proofs.Sets.{has_minus, has_with, subset_lt}
-use Rattle.logics.specs.Entailment.{Entailment, Goal}
-use Rattle.logics.specs.declared.Record.{Record}
+use Rattle.supports.specs.Asked.{Asked}
 use Rattle.supports.specs.Search.{Branch, Done, Branches, Grown}
-use Rattle.supports.proofs.Hitting.{branches_grow, branch_done}
-
--- the axioms of `may` that a branch by x may take
-abbrev pub Allowed : ℕ → ℕ → ℕ → ℕ → Type 0
-Allowed may s allowed x = (k : ℕ) → Iff (Has allowed k) (Has may k × (Has s k → k < x))
+use Rattle.supports.proofs.Hitting.{Allowed, branches_grow, branch_done}
 
 module _ (may s : ℕ) where
   pub allowed_none : may < 2 ^ 64 → s < 2 ^ 64 → Allowed may s (bit_and may (18446744073709551615 - s)) 0
@@ -49,22 +44,22 @@ module _ (may s : ℕ) where
   pub allowed_less : (allowed x : ℕ) → Has may x → Has s x → Allowed may s allowed x → allowed < may
   allowed_less allowed x in_may in_s is = subset_lt allowed may x (λ k h. ((is k).0 h).0) in_may (λ h. omega (arith, ((is x).0 h).1 in_s))
 
-module _ (l : Entailment) (records : List Record) (all : ℕ) (g : Goal) where
-  pub branches_none : (known : List ℕ) (out may s : ℕ) → Branches l records all g known out may s 0
+module _ (q : Asked) where
+  pub branches_none : (known : List ℕ) (out may s : ℕ) → Branches q known out may s 0
   branches_none known out may s x h lt = absurd (omega arith)
 
-  pub branches_more : (known more : List ℕ) (out may s x next allowed : ℕ) → Grown l records all g known more
-      → ((k : ℕ) → Iff (Has next k) (Has out k ⊎ (k ≡ x))) → Allowed may s allowed x → Done l records all g more next allowed
-      → Branches l records all g known out may s x → Branches l records all g more out may s (x + 1)
+  pub branches_more : (known more : List ℕ) (out may s x next allowed : ℕ) → Grown q known more
+      → ((k : ℕ) → Iff (Has next k) (Has out k ⊎ (k ≡ x))) → Allowed may s allowed x → Done q more next allowed
+      → Branches q known out may s x → Branches q more out may s (x + 1)
   branches_more known more out may s x next allowed grown is_next is_allowed done branches y h lt in_may in_s branch hits =
       elim (ℕ_discrete y x) [
         | yes e ↦
-            branch_done l records all g more out may s x next allowed is_next is_allowed done h (subst (λ (j : ℕ). Branch out may s j h) e branch) hits
-        | no ne ↦ branches_grow l records all g known more grown.keeps out may s x branches y h (omega arith) in_may in_s branch hits
+            branch_done q more out may s x next allowed is_next is_allowed done h (subst (λ (j : ℕ). Branch out may s j h) e branch) hits
+        | no ne ↦ branches_grow q known more grown.keeps out may s x branches y h (omega arith) in_may in_s branch hits
       ]
 
-  pub branches_skip : (known : List ℕ) (out may s x : ℕ) → (Has may x × Has s x → ⊥) → Branches l records all g known out may s x
-      → Branches l records all g known out may s (x + 1)
+  pub branches_skip : (known : List ℕ) (out may s x : ℕ) → (Has may x × Has s x → ⊥) → Branches q known out may s x
+      → Branches q known out may s (x + 1)
   branches_skip known out may s x none branches y h lt in_may in_s =
       elim (ℕ_discrete y x) [
         | yes e ↦ absurd (none (subst (λ (j : ℕ). Has may j) e in_may, subst (λ (j : ℕ). Has s j) e in_s))

@@ -4,11 +4,11 @@ use native.Mathlib.Decide.{ℕ_discrete}
 use lib.Bits.{bit_and}
 use Rattle.base.specs.Bits.{Has, Subset}
 use Rattle.base.specs.Words.{Iff, In}
-use Rattle.base.proofs.Sets.{has_or_not, has_zero, has_minus, same_set, some_place, subset_le}
-use Rattle.logics.specs.Entailment.{Entailment, Goal, Monotone}
-use Rattle.logics.specs.declared.Record.{Record}
-use Rattle.supports.specs.Supports.{Yields, Support, SomeSupports, AllSupports}
-use Rattle.supports.specs.Search.{HitsAll, Done, Earlier}
+use Rattle.base.proofs.Sets.{has_zero, has_minus, same_set, subset_le}
+use Rattle.logics.specs.Entailment.{Monotone}
+use Rattle.supports.specs.Asked.{Asked, Yields, Support, SomeSupports, AllSupports}
+use Rattle.supports.specs.Search.{HitsAll, Done}
+use Rattle.supports.proofs.Lacking.{within_or_not}
 use Rattle.supports.proofs.Yielding.{yields_more}
 
 in_or_not : (s : ℕ) (known : List ℕ) → In s known ⊎ (In s known → ⊥)
@@ -19,43 +19,37 @@ in_or_not s (k ∷ ks) =
       | no ne ↦ elim (in_or_not s ks) [ inl i ↦ inl (inr i) | inr none ↦ inr (λ j. ⊎_elim ne none j) ]
     ]
 
-module _ (l : Entailment) (records : List Record) (all : ℕ) (g : Goal) (small : all < 2 ^ 64) where
+module _ (q : Asked) (small : q.all < 2 ^ 64) where
   -- two supports of which one lies within the other are one
-  support_within : (s t : ℕ) → Support l records (Has all) g s → Support l records (Has all) g t → Subset t s → s ≡ t
+  support_within : (s t : ℕ) → Support q s → Support q t → Subset t s → s ≡ t
   support_within s t is is' sub = same_set s t (λ i. (is.minimal t sub is'.yields i, sub i))
 
-  pub support_small : (s : ℕ) → Support l records (Has all) g s → s < 2 ^ 64
-  support_small s is = omega (arith, subset_le s all is.in_force)
+  pub support_small : (s : ℕ) → Support q s → s < 2 ^ 64
+  support_small s is = omega (arith, subset_le s q.all is.in_force)
 
   -- a different support has an axiom that s lacks
-  differs : (s t : ℕ) → Support l records (Has all) g s → Support l records (Has all) g t → (s ≡ t → ⊥) → (i : ℕ) × Has t i × (Has s i → ⊥)
+  differs : (s t : ℕ) → Support q s → Support q t → (s ≡ t → ⊥) → (i : ℕ) × Has t i × (Has s i → ⊥)
   differs s t is is' ne =
-      let minus = λ (i : ℕ). has_minus 64 t s i (support_small t is') (support_small s is) in
-      elim (some_place (bit_and t (2 ^ 64 - 1 - s))) [
-        | inl e ↦
-            absurd
-            (ne (support_within s t is is'
-            (λ i in_t. elim (has_or_not s i) [ inl in_s ↦ in_s | inr not_s ↦ absurd (has_zero i (subst (λ (x : ℕ). Has x i) e ((minus i).1 (in_t, not_s)))) ])))
-        | inr p ↦ let q = (minus p.0).0 p.1 in (p.0, q.0, q.1)
-      ]
+      elim (within_or_not t s (support_small t is') (support_small s is))
+      [ inl within ↦ absurd (ne (support_within s t is is' within)) | inr lacking ↦ lacking ]
 
   -- the axioms outside an unknown support hit every known one, so they cannot all be left out
-  missed : (known : List ℕ) → SomeSupports l records (Has all) g known → Done l records all g known 0 all
-      → (s : ℕ) → Support l records (Has all) g s → (In s known → ⊥) → ⊥
+  missed : (known : List ℕ) → SomeSupports q known → Done q known 0 q.all
+      → (s : ℕ) → Support q s → (In s known → ⊥) → ⊥
   missed known some done s is unknown =
-      done (bit_and all (2 ^ 64 - 1 - s)) (record { holds = λ i p. absurd (has_zero i p); only = λ i p. inr ((outside i).0 p).0 }) hits
+      done (bit_and q.all (2 ^ 64 - 1 - s)) (record { holds = λ i p. absurd (has_zero i p); only = λ i p. inr ((outside i).0 p).0 }) hits
       s is.in_force (λ i p q. ((outside i).0 q).1 p) is.yields
     where
-      outside : (i : ℕ) → Iff (Has (bit_and all (2 ^ 64 - 1 - s)) i) (Has all i × (Has s i → ⊥))
-      outside i = has_minus 64 all s i small (support_small s is)
+      outside : (i : ℕ) → Iff (Has (bit_and q.all (2 ^ 64 - 1 - s)) i) (Has q.all i × (Has s i → ⊥))
+      outside i = has_minus 64 q.all s i small (support_small s is)
 
-      hits : HitsAll (bit_and all (2 ^ 64 - 1 - s)) known
+      hits : HitsAll (bit_and q.all (2 ^ 64 - 1 - s)) known
       hits t k =
           let is' = some.sound t k in
           let (i, in_t, not_s) = differs s t is is' (λ e. unknown (subst (λ (x : ℕ). In x known) (sym e) k)) in
           (i, (outside i).1 (is'.in_force i in_t, not_s), in_t)
 
-  pub all_found : (known : List ℕ) → SomeSupports l records (Has all) g known → Done l records all g known 0 all → AllSupports l records (Has all) g known
+  pub all_found : (known : List ℕ) → SomeSupports q known → Done q known 0 q.all → AllSupports q known
   all_found known some done = record {
     sound = some.sound;
     complete = λ s is. elim (in_or_not s known) [ inl i ↦ i | inr unknown ↦ absurd (missed known some done s is unknown) ];
@@ -63,17 +57,14 @@ module _ (l : Entailment) (records : List Record) (all : ℕ) (g : Goal) (small 
   }
 
 -- before anything is known
-module _ (l : Entailment) (records : List Record) (all : ℕ) (g : Goal) where
-  pub none_yet : SomeSupports l records (Has all) g []
+module _ (q : Asked) where
+  pub none_yet : SomeSupports q []
   none_yet = record { sound = λ s i. absurd i; ascending = tt }
 
-  pub nothing_out : (known : List ℕ) (may : ℕ) → Earlier l records all g known 0 may
-  nothing_out known may e h in_out = absurd (has_zero e in_out)
-
   -- what does not follow from all axioms has no support
-  pub none_found : Monotone l → (Yields l records (Has all) g all → ⊥) → AllSupports l records (Has all) g []
+  pub none_found : Monotone q.logic → (Yields q q.all → ⊥) → AllSupports q []
   none_found monotone never = record {
     sound = λ s i. absurd i;
-    complete = λ s is. absurd (never (yields_more l monotone records all g s all is.in_force is.yields));
+    complete = λ s is. absurd (never (yields_more q monotone s q.all is.in_force is.yields));
     ascending = tt;
   }

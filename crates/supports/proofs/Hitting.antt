@@ -5,8 +5,7 @@ use lib.Bits.{bit_and}
 use Rattle.base.specs.Bits.{Has, Subset}
 use Rattle.base.specs.Words.{Iff, In}
 use Rattle.base.proofs.Sets.{has_or_not, has_and, has_without, has_below}
-use Rattle.logics.specs.Entailment.{Entailment, Goal}
-use Rattle.logics.specs.declared.Record.{Record}
+use Rattle.supports.specs.Asked.{Asked}
 use Rattle.supports.specs.Search.{Apart, HitsAll, Without, Branch, Blocks, Done, Earlier, Branches}
 
 -- the last place of a set below n
@@ -21,18 +20,22 @@ last_place s (suc n) (k, h, l) =
           (x, p, omega arith, λ i a b. let ni : i ≡ n → ⊥ = λ e. none (subst (λ (j : ℕ). Has s j) e a) in top i a (omega arith))
     ]
 
-module _ (l : Entailment) (records : List Record) (all : ℕ) (g : Goal) where
-  pub blocks_more : (h k : ℕ) → Subset h k → Blocks l records all g h → Blocks l records all g k
+-- the axioms of `may` that a branch by x may take
+abbrev pub Allowed : ℕ → ℕ → ℕ → ℕ → Type 0
+Allowed may s allowed x = (k : ℕ) → Iff (Has allowed k) (Has may k × (Has s k → k < x))
+
+module _ (q : Asked) where
+  pub blocks_more : (h k : ℕ) → Subset h k → Blocks q h → Blocks q k
   blocks_more h k sub blocks t inside apart = blocks t inside (λ i p q. apart i p (sub i q))
 
   -- where all outside `out` yields nothing, the region is done
-  pub done_blocked : (known : List ℕ) (out may : ℕ) → Blocks l records all g out → Done l records all g known out may
+  pub done_blocked : (known : List ℕ) (out may : ℕ) → Blocks q out → Done q known out may
   done_blocked known out may blocks h region hits = blocks_more out h region.holds blocks
 
   -- a region is done where some axiom of `out` is never the only one that hits a known support
   pub done_cut : (known : List ℕ) (out may e : ℕ) → Has out e
       → ((s : ℕ) → In s known → Has s e → (i : ℕ) × Has s i × Has out i × (i ≡ e → ⊥))
-      → Earlier l records all g known out may → Done l records all g known out may
+      → Earlier q known out may → Done q known out may
   done_cut known out may e in_out spare pre h region hits =
       blocks_more (h - 2 ^ e) h (λ i p. ((has_without e h i in_h).0 p).0) (pre e (h - 2 ^ e) in_out without still)
     where
@@ -57,8 +60,8 @@ module _ (l : Entailment) (records : List Record) (all : ℕ) (g : Goal) where
           ]
 
   -- a set that hits s below i, and of the axioms of s from i on has none but those of `out`, lies in one of the branches
-  pub by_branch : (known : List ℕ) (out may s i : ℕ) → In s known → Apart s out → Branches l records all g known out may s i
-      → (h : ℕ) → Subset out h → ((k : ℕ) → Has h k → Has out k ⊎ (Has may k × (Has s k → k < i))) → HitsAll h known → Blocks l records all g h
+  pub by_branch : (known : List ℕ) (out may s i : ℕ) → In s known → Apart s out → Branches q known out may s i
+      → (h : ℕ) → Subset out h → ((k : ℕ) → Has h k → Has out k ⊎ (Has may k × (Has s k → k < i))) → HitsAll h known → Blocks q h
   by_branch known out may s i is_Known apart branches h holds only hits =
       let (k, in_h, in_s) = hits s is_Known in
       let (x, both, l_x, top) = last_place (bit_and h s) i (k, (has_and h s k).1 (in_h, in_s), (below k in_h in_s).1) in
@@ -82,20 +85,20 @@ module _ (l : Entailment) (records : List Record) (all : ℕ) (g : Goal) where
           ]
 
   -- once all branches are done, so is the region
-  pub done_branches : (known : List ℕ) (out may s : ℕ) → s < 2 ^ 64 → In s known → Apart s out → Branches l records all g known out may s 64
-      → Done l records all g known out may
+  pub done_branches : (known : List ℕ) (out may s : ℕ) → s < 2 ^ 64 → In s known → Apart s out → Branches q known out may s 64
+      → Done q known out may
   done_branches known out may s small is_Known apart branches h region =
       by_branch known out may s 64 is_Known apart branches h region.holds
       (λ k p. ⊎_elim inl (λ m. inr (m, has_below 64 s k small)) (region.only k p))
 
   -- what a branch may take for done: the region's own, and the branches before it
   pub branch_earlier : (known : List ℕ) (out may s x next allowed : ℕ) → In s known → Apart s out → Has may x → Has s x
-      → ((k : ℕ) → Iff (Has next k) (Has out k ⊎ (k ≡ x))) → ((k : ℕ) → Iff (Has allowed k) ((Has may k) × (Has s k → k < x)))
-      → Earlier l records all g known out may → Branches l records all g known out may s x → Earlier l records all g known next allowed
+      → ((k : ℕ) → Iff (Has next k) (Has out k ⊎ (k ≡ x))) → Allowed may s allowed x
+      → Earlier q known out may → Branches q known out may s x → Earlier q known next allowed
   branch_earlier known out may s x next allowed is_Known apart in_may in_s is_next is_allowed earlier branches e h in_next without hits =
       ⊎_elim from_out from_x ((is_next e).0 in_next)
     where
-      from_out : Has out e → Blocks l records all g h
+      from_out : Has out e → Blocks q h
       from_out in_out =
           earlier e h in_out
           (record {
@@ -106,7 +109,7 @@ module _ (l : Entailment) (records : List Record) (all : ℕ) (g : Goal) where
           })
           hits
 
-      from_x : e ≡ x → Blocks l records all g h
+      from_x : e ≡ x → Blocks q h
       from_x same =
           by_branch known out may s x is_Known apart branches h
           (λ i p. ⊎_elim (λ i_e. absurd (apart x in_s (subst (λ (j : ℕ). Has out j) (i_e ∙ same) p))) (λ q. q) (without.holds i ((is_next i).1 (inl p))))
@@ -116,8 +119,8 @@ module _ (l : Entailment) (records : List Record) (all : ℕ) (g : Goal) where
 
   -- a branch that is done, as one of the branches
   pub branch_done : (known : List ℕ) (out may s x next allowed : ℕ) → ((k : ℕ) → Iff (Has next k) (Has out k ⊎ (k ≡ x)))
-      → ((k : ℕ) → Iff (Has allowed k) ((Has may k) × (Has s k → k < x))) → Done l records all g known next allowed
-      → (h : ℕ) → Branch out may s x h → HitsAll h known → Blocks l records all g h
+      → Allowed may s allowed x → Done q known next allowed
+      → (h : ℕ) → Branch out may s x h → HitsAll h known → Blocks q h
   branch_done known out may s x next allowed is_next is_allowed done h branch =
       done h
       (record {
@@ -130,11 +133,8 @@ module _ (l : Entailment) (records : List Record) (all : ℕ) (g : Goal) where
     fewer : (h : ℕ) → HitsAll h more → HitsAll h known
     fewer h hits s k = hits s (grows s k)
 
-    pub done_grows : (out may : ℕ) → Done l records all g known out may → Done l records all g more out may
-    done_grows out may done h region hits = done h region (fewer h hits)
-
-    pub earlier_grows : (out may : ℕ) → Earlier l records all g known out may → Earlier l records all g more out may
+    pub earlier_grows : (out may : ℕ) → Earlier q known out may → Earlier q more out may
     earlier_grows out may earlier e h in_out without hits = earlier e h in_out without (fewer h hits)
 
-    pub branches_grow : (out may s i : ℕ) → Branches l records all g known out may s i → Branches l records all g more out may s i
+    pub branches_grow : (out may s i : ℕ) → Branches q known out may s i → Branches q more out may s i
     branches_grow out may s i branches x h lt in_may in_s branch hits = branches x h lt in_may in_s branch (fewer h hits)

@@ -1,3 +1,4 @@
+pub mod Lacking
 pub mod Yielding
 pub mod Hitting
 pub mod Finding
@@ -6,4 +7,3 @@ pub mod Joining
 pub mod Looking
 pub mod Growing
 pub mod Branching
-pub mod Zeroing

@@ -1,4 +1,5 @@
 pub mod Supports
+pub mod Asked
 pub mod Search
 pub mod Walk
 pub mod Found

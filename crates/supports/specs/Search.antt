@@ -1,17 +1,11 @@
 -- The words by which the search for supports is explained. It walks over sets H that hit every support known so far, and asks what the axioms
 -- outside H yield.
-use Rattle.std.specs.Prelude.{◌≡◌, ℕ, ◌-◌, ◌^◌, ◌<◌, ◌⊎◌, List, ◌++◌, drop, replicate, Some, Option, MatchOption, ◌≢◌}
+use Rattle.std.specs.Prelude.{◌≡◌, ℕ, ◌-◌, ◌^◌, ◌<◌, ◌⊎◌, List, Some, Option, MatchOption, ◌≢◌}
 use Rattle.base.specs.Bits.{Has, Subset}
 use Rattle.base.specs.Words.{Iff, In}
 use Rattle.ordered.specs.Lists.{Ascending}
 use Rattle.ordered.specs.Sets.{Before}
-use Rattle.logics.specs.Entailment.{Entailment, Goal}
-use Rattle.logics.specs.declared.Record.{Record}
-use Rattle.supports.specs.Supports.{Yields, SomeSupports}
-
--- the first n bytes of the work area are zero
-abbrev pub Clean : ℕ → List ℕ → Type 0
-Clean n area = area ≡ replicate n 0 ++ drop n area
+use Rattle.supports.specs.Asked.{Asked, Yields, SomeSupports}
 
 -- no axiom is in both sets
 abbrev pub Apart : ℕ → ℕ → Type 0
@@ -63,10 +57,10 @@ pub record Looked (known : List ℕ) (out : ℕ) (unhit : Option ℕ) (sole : �
   pub inside : Subset sole out
   pub spare : (s : ℕ) → In s known → Spare out sole s
 
-module _ (l : Entailment) (records : List Record) (all : ℕ) (g : Goal) where
+module _ (q : Asked) where
   -- no set outside h yields the goal
   abbrev pub Blocks : ℕ → Type 0
-  Blocks h = (t : ℕ) → Subset t all → Apart t h → Yields l records (Has all) g t → ⊥
+  Blocks h = (t : ℕ) → Subset t q.all → Apart t h → Yields q t → ⊥
 
   -- each set of the region that hits every known support blocks the goal
   abbrev pub Done : List ℕ → ℕ → ℕ → Type 0
@@ -83,15 +77,15 @@ module _ (l : Entailment) (records : List Record) (all : ℕ) (g : Goal) where
   -- what is left of a set that yields the goal, once each axiom below i that is not needed has been dropped
   pub record Shrunk (set now i : ℕ) : Type 0 where
     pub inside : Subset now set
-    pub yields : Yields l records (Has all) g now
-    pub needed : (j : ℕ) → j < i → Has now j → Yields l records (Has all) g (now - 2 ^ j) → ⊥
+    pub yields : Yields q now
+    pub needed : (j : ℕ) → j < i → Has now j → Yields q (now - 2 ^ j) → ⊥
 
   -- axiom i is dropped from a set where the goal still follows, and kept or not there otherwise
   abbrev pub DroppedOne : ℕ → ℕ → ℕ → Type 0
   DroppedOne now i r =
-      (Has now i × (r ≡ now - 2 ^ i) × Yields l records (Has all) g r) ⊎ ((r ≡ now) × (Has now i → Yields l records (Has all) g (now - 2 ^ i) → ⊥))
+      (Has now i × (r ≡ now - 2 ^ i) × Yields q r) ⊎ ((r ≡ now) × (Has now i → Yields q (now - 2 ^ i) → ⊥))
 
   -- more supports than before, each once, ascending
   pub record Grown (known more : List ℕ) : Type 0 where
-    pub supports : SomeSupports l records (Has all) g more
+    pub supports : SomeSupports q more
     pub keeps : (s : ℕ) → In s known → In s more

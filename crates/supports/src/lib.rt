@@ -1,26 +1,16 @@
 // The search for all supports of a goal: the minimal sets of axioms that yield it.
 #![tactic(auto)]
 
-ghost use Rattle.std.specs.Prelude.{◌≡◌, ◌-◌, ◌≤◌, ◌++◌, length, take, replicate, Some};
+ghost use Rattle.std.specs.Prelude.{◌≡◌, length, replicate, Some};
 ghost use Rattle.logics.specs.Entailment.{Askable};
 ghost use Rattle.supports.specs.Found.{Found};
 
-use crate::walk::walk_all;
+use crate::question::Question;
 use logics::{Logic, Record};
 
 mod known;
 mod question;
 mod walk;
-
-// Makes the places from `count` on zero.
-fn clear_from(places: &mut [u64], count: usize)
-    requires { count ≤ length places.old }
-    ensures { places.new ≡ take count places.old ++ replicate (length places.old - count) 0 }
-{
-    for i in count..places.len() {
-        places[i] = 0;
-    }
-}
 
 // Fills the places with all supports of the goal among the axioms of `all`, ascending, and answers how many; the other places
 // are zero. `None`, and all places zero, where there are more supports than places.
@@ -36,10 +26,16 @@ pub fn find_supports<L: Logic>(
     ensures declined { (Askable (L.meaning logic.now) records.now all goal (length area.old) → ⊥) → (result ≡ Some 0) × (places.new ≡ replicate (length places.old) 0) × (area.new ≡ area.old) }
 {
     if !logic.follows(records, all, goal, area) {
-        clear_from(places, 0);
+        places.fill(0);
         return Some(0);
     }
-    let found = walk_all(logic, records, all, goal, places, area);
-    clear_from(places, found.unwrap_or(0));
+    let question = Question {
+        logic,
+        records,
+        all,
+        goal,
+    };
+    let found = question.walk_all(places, area).ok();
+    places[found.unwrap_or(0)..].fill(0);
     found
 }

@@ -1,3 +1,7 @@
+pub mod Chains
+pub mod Matrix
+pub mod Flips
 pub mod Links
 pub mod Joins
-pub mod Primes
+pub mod Splits
+pub mod Finishing

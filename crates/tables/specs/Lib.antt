@@ -2,7 +2,3 @@ pub mod Table
 pub mod Rows
 pub mod OneProof
 pub mod Laws
-pub mod Matrix
-pub mod Chains
-pub mod Finishing
-pub mod Flips

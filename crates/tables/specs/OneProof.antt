@@ -1,6 +1,5 @@
--- Facts about an order in rows of bits have one proof at most, so what a ghost field says of it serves anywhere.
+-- Facts about an order in rows of bits have one proof at most, so a ghost field may hold them.
 use Rattle.std.specs.Prelude.{◌≡◌, ℕ, ◌<◌, List}
-use Rattle.std.proofs.Math.Logic.{∥∥₁_elim}
 use mathlib.Core.HLevel.{Π_prop, ×_prop}
 use denote.Struct.Props.{props}
 use Rattle.base.specs.Bits.{Has}
@@ -15,7 +14,7 @@ module _ (n : ℕ) (rows : List ℕ) where
       let order : IsProp (Marked rows a b) = hlevel props in
       λ i. record { low = low p.low q.low i; high = high p.high q.high i; order = order p.order q.order i }
 
-  order_one : IsProp (PartialOrder (matrix n rows))
+  pub order_one : IsProp (PartialOrder (matrix n rows))
   order_one p q =
       let reflexive : IsProp ((a : ℕ) → a < n → Under (matrix n rows) a a) = hlevel (props, under_one) in
       let antisymmetric : IsProp ((a b : ℕ) → Under (matrix n rows) a b → Under (matrix n rows) b a → a ≡ b) = hlevel props in
@@ -26,9 +25,6 @@ module _ (n : ℕ) (rows : List ℕ) where
         antisymmetric = antisymmetric p.antisymmetric q.antisymmetric i;
         transitive = transitive p.transitive q.transitive i;
       }
-
-  pub ordered : ∥ PartialOrder (matrix n rows) ∥₁ → PartialOrder (matrix n rows)
-  ordered t = ∥∥₁_elim t order_one (λ x. x)
 
   least_one : (a b j : ℕ) → IsProp (Least (matrix n rows) a b j)
   least_one a b j p q =
@@ -48,7 +44,7 @@ module _ (n : ℕ) (rows : List ℕ) where
         greatest = greatest p.greatest q.greatest i;
       }
 
-  finished_one : (meets joins : List (List ℕ)) (top primes : ℕ) → IsProp (Finished (matrix n rows) meets joins top primes)
+  pub finished_one : (meets joins : List (List ℕ)) (top primes : ℕ) → IsProp (Finished (matrix n rows) meets joins top primes)
   finished_one meets joins top primes p q =
       let meet : IsProp (MeetTable (matrix n rows) meets) = hlevel (props, greatest_one) in
       let join : IsProp (JoinTable (matrix n rows) joins) = hlevel (props, least_one) in
@@ -59,12 +55,8 @@ module _ (n : ℕ) (rows : List ℕ) where
       let prime : IsProp (PrimeSet (matrix n rows) joins primes) =
       Π_prop (λ u. ×_prop (Π_prop (λ _. ×_prop (small u) (split u))) (Π_prop (λ _. has u))) in
       λ i. record {
-        ordered = order_one p.ordered q.ordered i;
         meet = meet p.meet q.meet i;
         join = join p.join q.join i;
         highest = highest p.highest q.highest i;
         prime = prime p.prime q.prime i;
       }
-
-  pub complete : (meets joins : List (List ℕ)) (top primes : ℕ) → ∥ Finished (matrix n rows) meets joins top primes ∥₁ → Finished (matrix n rows) meets joins top primes
-  complete meets joins top primes t = ∥∥₁_elim t (finished_one meets joins top primes) (λ x. x)

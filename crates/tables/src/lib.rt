@@ -1,6 +1,7 @@
 // Tables: label kinds whose order is given by pairs of labels.
 #![tactic(auto)]
 
-mod bounds;
 pub mod builder;
+mod order;
+mod primes;
 pub mod table;

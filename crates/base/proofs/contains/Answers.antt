@@ -1,15 +1,7 @@
-use Rattle.std.proofs.Common.{◌/◌, ◌^◌, ◌<◌, arith, ltb→lt, rules}
-use lib.Bits.{bit_and, and_mask}
+use Rattle.std.proofs.Common.{◌^◌, ◌<◌, arith, ltb→lt, rules}
 use Rattle.base.proofs.Sets.{has_below}
-use Rattle.base.proofs.Tests.{eqb_iff, both_fail}
+use Rattle.base.proofs.Tests.{both_fail}
 use Rattle.base.proofs.contains.Goals as goal
-
-pub returns-then-place-lt64 : goal.returns-then-place-lt64
-returns-then-place-lt64 c =
-    let bit = c.args.set / 2 ^ c.args.place in
-    let low = and_mask bit 1 in
-    let test = eqb_iff (bit_and bit 1) 1 in
-    (λ t. omega (arith, test.0 t, low), λ h. test.1 (omega (arith, h, low)))
 
 pub returns-else-place-lt64 : goal.returns-else-place-lt64
 returns-else-place-lt64 c =

@@ -1,4 +1,4 @@
-use Rattle.std.proofs.Common.{◌≡◌, ℕ, ◌+◌, ◌<◌, ◌≤◌, List, length, take, sym, refl, ◌∙◌, subst, ap, inl, inr, arith, length-take-le}
+use Rattle.std.proofs.Common.{Ok, Err, Result, IsOk, OnOk, ◌≡◌, ℕ, ◌+◌, ◌<◌, ◌≤◌, List, length, take, sym, refl, ◌∙◌, subst, ap, inl, inr, arith, length-take-le}
 use Rattle.ordered.specs.Lists.{Gap, opened}
 use Rattle.ordered.proofs.Places.{length_opened}
 use Rattle.engine.specs.declared.page.Row.{Row}
@@ -11,7 +11,13 @@ returns-in_default c =
     let (within, level) = c.in_default.ensures.found in
     inl (rw (sym c.rows.ensures.is) (level_there c.rows.result.now c.args.row c.in_default.field-0 within level), refl)
 
-module _ (c : goal.After-self-1) where
+-- what holds where it is known that there is a value
+on_ok : {A E P : Type 0} (r : Result A E) → IsOk r → OnOk r P → P
+on_ok (Ok x) ok p = p
+on_ok (Err e) ok p = let z : ◌≡◌ {A = ℕ} 0 1 = cc in absurd (omega arith)
+
+-- none is of the row's goal, so that there is room
+module _ (c : goal.After-insert) where
   abbrev rows : List Row
   rows = c.self.inside.rows
 
@@ -39,8 +45,11 @@ module _ (c : goal.After-self-1) where
   less : count < length rows
   less = omega (arith, few, c.self.invariant.long)
 
+  done : IsOk c.insert.result
+  done = c.insert.ensures.room.1 (less, used)
+
   put : c.insert.new.list ≡ opened rows count c.in-Err.place c.args.row
-  put = c.insert.ensures.put (c.insert.ensures.room.1 (less, used))
+  put = on_ok c.insert.result done c.insert.ensures.put
 
   more : OneMore (take count rows) c.args.row (take (count + 1) c.insert.new.list)
   more =
@@ -50,8 +59,11 @@ module _ (c : goal.After-self-1) where
   long : length c.insert.new.list ≡ 64
   long = ap length put ∙ length_opened rows count c.in-Err.place c.args.row less used ∙ c.self.invariant.long
 
+pub unwrap-requires : goal.unwrap-requires
+unwrap-requires c = done c
+
 pub invariant_of-self : goal.invariant_of-self
-invariant_of-self c = let less = few c in record { few = omega arith; long = long c; ascending = (more c).ascending }
+invariant_of-self c = let d = c.before.before in let less = few d in record { few = omega arith; long = long d; ascending = (more d).ascending }
 
 pub returns-in-Err : goal.returns-in-Err
-returns-in-Err c = inr (none c, subst (λ (rs : List Row). OneMore rs c.args.row (take (count c + 1) c.insert.new.list)) c.self.view_is (more c))
+returns-in-Err c = let d = c.before.before in inr (none d, subst (λ (rs : List Row). OneMore rs c.args.row (take (count d + 1) c.insert.new.list)) c.self.view_is (more d))

@@ -1,49 +1,49 @@
-use Rattle.std.proofs.Common.{ℕ, List, refl, inl, inr, arith}
-use native.Mathlib.Decide.{ℕ_discrete}
-use lib.Bits.{bit_and, and_le_l}
-use Rattle.logics.specs.Entailment.{marked}
+use Rattle.std.proofs.Common.{◌∙◌, ◌≡◌, Bool, eqb, filter, eqb→eq, rules}
+use Rattle.base.specs.Words.{In}
+use Rattle.base.proofs.Tests.{eqb_iff, is_true, passed}
+use Rattle.logics.specs.Entailed.{entails_source}
+use Rattle.logics.specs.Marked.{each_more}
+use Rattle.logics.specs.declared.Record.{Record}
+use Rattle.logics.specs.Ticks.{tick_weaker}
 use Rattle.logics.proofs.Canonical.{Pulled, source_drawn}
-use Rattle.logics.specs.Entailed.{derive_one, entails_source}
-use Rattle.logics.specs.Marked.{But, but_none, walk_start, walk_first, walk_more}
-use Rattle.logics.proofs.Rounds.{round_more, round_idle}
-use Rattle.logics.specs.Ticks.{tick_none, tick_weaker}
+use Rattle.logics.proofs.Rounds.{round_more}
+use Rattle.logics.proofs.Selections.{in_filter}
+use Rattle.logics.proofs.Walks.{on_the_way, in_the_end}
 use Rattle.logics.proofs.el.El.source.Goals as goal
+use Rattle.logics.proofs.el.El.source.Goals.{In-Some}
 
-pub loop-rest-init : goal.loop-rest-init
-loop-rest-init c =
-    let n = c.args.self.now.concepts in
-    let some = bit_and c.args.marks c.args.partners in
-    let idle : (l : List ℕ) → But (λ p. Pulled n c.args.x c.args.record p l) (marked c.args.records.now c.args.marks) (marked c.args.records.now some) = λ l p i. elim (ℕ_discrete p.form 3) [ yes form ↦ inr ((c.requires.partners c.args.marks p).1 (i, form)) | no other ↦ inl (λ form. absurd (other form)) ] in
-    (walk_start _ _ (omega (arith, c.requires.ready.within, and_le_l c.args.marks c.args.partners)), tick_none refl (idle _))
+three : Record → Bool
+three r = eqb r.form 3
 
-pub derive-new-requires : goal.derive-new-requires
-derive-new-requires c =
-    let ready = c.requires.ready in
-    let given = (c.requires.partners c.args.marks c.first_marked-others.result.0).0 (walk_first _ _ _ _ _ c.first_marked-others.ensures.first c.loop-rest.invariant.0) in
-    let r = (ready.taken c.args.record c.requires.given).source c.requires.form in
-    let p = (ready.taken c.first_marked-others.result.0 given.0).partner given.1 in
-    record { wide = omega (arith, ready.wide); first = (omega (arith, p), omega (arith, p)); second = (omega (arith, p), omega (arith, r)); third = (omega (arith, p, r), omega (arith, p, r)) }
+given : (c : In-Some) → In c.in-Some.partner c.args.axioms.now.all × (c.in-Some.partner.form ≡ 3)
+unfolding three
+given c =
+    let all = c.args.axioms.now.all in
+    let kept = (in_filter three _ all).0 (on_the_way {all = filter three all} c.loop-partner.yielded (c.into_iter-partner-iterator.ensures.into_iter_gives ∙ c.iter-partner-items.ensures ∙ c.args.axioms.now.of_form_3) c.loop-partner.yielded_by c.in-Some.ensures.steps) in
+    (kept.0, eqb→eq _ _ (passed kept.1))
 
-pub loop-rest-preserved-then-partner-record : goal.loop-rest-preserved-then-partner-record
-loop-rest-preserved-then-partner-record c =
-    let n = c.args.self.now.concepts in
-    let x = c.args.x in
-    let r = c.args.record in
-    let p = c.first_marked-others.result.0 in
-    let step = c.first_marked-others.ensures in
-    let walk = c.loop-rest.invariant.0 in
-    let given = (c.requires.partners c.args.marks p).0 (walk_first _ _ _ _ _ step.first walk) in
-    let r_in = (c.requires.ready.taken r c.requires.given).source c.requires.form in
-    let p_in = (c.requires.ready.taken p given.0).partner given.1 in
-    let new = derive_one _ n (x, p.a) (p.c, r.b) (x, r.c) (c.requires.row, p_in.0) (p_in.2, r_in.1) (c.requires.row, r_in.2) (omega (arith, c.requires.ready.wide)) (entails_source _ r p x c.requires.given c.requires.form given.0 given.1 c.if-partner-record.true) c.derive-new.ensures.inferred c.derive-new.ensures.settled in
-    (walk_more _ _ _ _ _ step.first walk step.fewer, round_more (Pulled n x r) _ _ _ p step.first _ _ c.loop-rest.invariant.1 (tick_weaker (λ l settled _ _. settled) new))
+pub derive-changed-requires : goal.derive-changed-requires
+derive-changed-requires c =
+    let i = given (goal.at.derive-changed-requires c).In-Some in
+    let r = (c.requires.ready.taken c.args.source c.requires.given).source c.requires.form in
+    let p = (c.requires.ready.taken c.in-Some.partner i.0).partner i.1 in
+    search rules
 
-pub loop-rest-preserved : goal.loop-rest-preserved
-loop-rest-preserved c =
-    let step = c.first_marked-others.ensures in
-    let rule = Pulled c.args.self.now.concepts c.args.x c.args.record in
-    (walk_more _ _ _ _ _ step.first c.loop-rest.invariant.0 step.fewer, round_idle rule _ _ _ c.first_marked-others.result.0 step.first (λ l form role. absurd (c.if-partner-record.false role)) c.loop-rest.invariant.1)
+pub loop-partner-preserved-then-partner-source : goal.loop-partner-preserved-then-partner-source
+loop-partner-preserved-then-partner-source c =
+    let i = given (goal.at.loop-partner-preserved-then-partner-source c).In-Some in
+    let r = c.args.source in
+    let p = c.in-Some.partner in
+    round_more (Pulled c.args.self.now.concepts c.args.x r) _ p _ _ c.loop-partner.invariant
+    (tick_weaker (λ l settled _ _. settled) (c.derive-changed.ensures _ (entails_source _ r p c.args.x c.requires.given c.requires.form i.0 i.1 c.if-partner-source.true)))
+
+pub loop-partner-preserved : goal.loop-partner-preserved
+loop-partner-preserved c =
+    tick_weaker (λ l old. each_more _ _ old (λ form role. absurd (c.if-partner-source.false role))) c.loop-partner.invariant
 
 pub returns : goal.returns
+unfolding three
 returns c =
-    tick_weaker (λ cells all. source_drawn _ cells _ c.args.x c.args.record c.requires.form (but_none _ _ c.loop-rest-test.false all)) c.loop-rest.invariant.1
+    let rs = c.args.axioms.now.all in
+    let all = in_the_end {all = filter three rs} c.loop-partner.yielded (c.into_iter-partner-iterator.ensures.into_iter_gives ∙ c.iter-partner-items.ensures ∙ c.args.axioms.now.of_form_3) c.loop-partner.yielded_by c.in-None.ensures.steps.0 in
+    tick_weaker (λ cells settled. source_drawn _ cells rs c.args.x c.args.source c.requires.form (λ p i form. settled p (rw all ((in_filter three p rs).1 (i, is_true _ ((eqb_iff _ _).1 form)))) form)) c.loop-partner.invariant

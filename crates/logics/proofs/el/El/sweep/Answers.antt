@@ -1,25 +1,12 @@
-use Rattle.std.proofs.Common.{refl, inr, arith}
+use Rattle.std.proofs.Common.{◌∙◌}
 use Rattle.logics.specs.Drawing.{DrawnAt}
-use Rattle.logics.specs.Entailment.{marked}
-use Rattle.logics.specs.Marked.{but_none, walk_start, walk_first, walk_more}
 use Rattle.logics.proofs.Rounds.{round_more}
-use Rattle.logics.specs.Ticks.{tick_none, tick_weaker}
+use Rattle.logics.proofs.Walks.{on_the_way}
 use Rattle.logics.proofs.el.El.sweep.Goals as goal
 
-pub loop-rest-init : goal.loop-rest-init
-loop-rest-init c = (walk_start _ _ c.requires.ready.within, tick_none refl (λ r i. inr i))
+pub settle-changed-requires-clause-given : goal.settle-changed-requires-clause-given
+settle-changed-requires-clause-given c = on_the_way c.loop-axiom.yielded (c.into_iter-axiom-iterator.ensures.into_iter_gives ∙ c.iter-axiom-items.ensures) c.loop-axiom.yielded_by c.in-Some.ensures.steps
 
-pub settle-new-requires : goal.settle-new-requires
-settle-new-requires c =
-    let ready = c.requires.ready in
-    let given = walk_first _ _ _ _ _ c.first_marked-others.ensures.first c.loop-rest.invariant.0 in
-    record { ready = record { few = ready.few; within = ready.within; taken = ready.taken; wide = omega (arith, ready.wide) }; partners = c.requires.partners; row = c.requires.row; given = given }
-
-pub loop-rest-preserved : goal.loop-rest-preserved
-loop-rest-preserved c =
-    let rs = marked c.args.records.now c.args.marks in
-    let step = c.first_marked-others.ensures in
-    (walk_more _ _ _ _ _ step.first c.loop-rest.invariant.0 step.fewer, round_more (DrawnAt c.args.self.now.concepts rs c.args.x) _ _ _ _ step.first _ _ c.loop-rest.invariant.1 c.settle-new.ensures)
-
-pub returns : goal.returns
-returns c = tick_weaker (λ cells all. but_none _ _ c.loop-rest-test.false all) c.loop-rest.invariant.1
+pub loop-axiom-preserved : goal.loop-axiom-preserved
+loop-axiom-preserved c =
+    round_more (DrawnAt c.args.self.now.concepts c.args.axioms.now.all c.args.x) _ _ _ _ c.loop-axiom.invariant c.settle-changed.ensures

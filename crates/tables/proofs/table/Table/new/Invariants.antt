@@ -1,9 +1,11 @@
-use Rattle.std.proofs.Common.{◌≡◌, ◌≤◌, length, take}
+use Rattle.std.proofs.Common.{◌≡◌, take}
 use Rattle.tables.specs.Table.{TakenUpTo}
 use Rattle.tables.specs.Rows.{Keeps}
 use Rattle.tables.proofs.table.Table.new.Given as goal
 
-abbrev pub invariant-loop-pair : goal.invariant-loop-pair
-invariant-loop-pair l =
-    (l.builder.labels ≡ l.labels) × (l.pair-index ≤ length l.pairs) × TakenUpTo l.labels l.pairs l.pair-index
-    × Keeps l.labels l.builder.rows (take l.pair-index l.pairs)
+abbrev pub invariant-loop-low : goal.invariant-loop-low
+invariant-loop-low l = record {
+  labels : l.builder.order.labels ≡ l.labels;
+  taken : TakenUpTo l.labels l.pairs l.low-index;
+  keeps : Keeps l.labels l.builder.order.rows (take l.low-index l.pairs);
+}
