@@ -17,7 +17,7 @@ abbrev pub any_kind : AnyKind → LabelOrder
 any_kind (Chain k) = chain k.labels
 any_kind (Sets k) = sets k.regions
 any_kind (House k) = house
-any_kind (Table k) = matrix k.labels k.rows
+any_kind (Table k) = matrix k.order.labels k.order.rows
 
 -- the meaning of a logic
 abbrev pub any_logic : AnyLogic → Entailment

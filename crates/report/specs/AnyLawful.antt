@@ -3,7 +3,6 @@ use Rattle.labels.specs.Order.{Lawful}
 use Rattle.labels.specs.Chains.{chain_lawful}
 use Rattle.labels.specs.Inclusion.{sets_lawful}
 use Rattle.labels.specs.Houses.{house_lawful}
-use Rattle.tables.specs.OneProof.{complete}
 use Rattle.tables.specs.Laws.{table_lawful}
 use Rattle.report.specs.declared.any.AnyKind.{AnyKind}
 use Rattle.report.specs.declared.any.AnyKind.TheVariants.{Chain, Sets, House, Table}
@@ -13,4 +12,4 @@ pub any_lawful : (k : AnyKind) → Lawful (any_kind k)
 any_lawful (Chain k) = chain_lawful k.labels k.ok
 any_lawful (Sets k) = sets_lawful k.regions k.ok
 any_lawful (House k) = house_lawful
-any_lawful (Table t) = table_lawful _ _ _ _ _ _ (complete _ _ _ _ _ _ t.finished) t.sized
+any_lawful (Table t) = table_lawful _ _ t.order.ordered _ _ _ _ t.finished t.order.sized

@@ -16,4 +16,4 @@ pub returns : goal.returns
 returns c = λ p w file stands.
     let gets = c.in_ok-found.ensures in
     let (same, none) = c.in_ok-kind.ensures p w _ (first_kind stands gets) (λ e. search rules) in
-    (c.in_ok-found.found.line ∷ [], plain_read stands gets (λ e. ?) same none c.advance.ensures)
+    (c.in_ok-found.found.line ∷ [], plain_read stands gets (λ e. search rules) same none c.advance.ensures)

@@ -22,7 +22,7 @@ loop-reader-init c = (
   λ p w file stands is.
       let (sized, (labels, keeps)) = c.in_ok-builder.ensures in
       let b = c.in_ok-builder.builder in
-      ([], table_begun stands is (sym labels) sized (subst (λ (n : ℕ). KeepsPairs n b.rows []) (sym labels) keeps)),
+      ([], table_begun stands is (sym labels) sized (subst (λ (n : ℕ). KeepsPairs n b.order.rows []) (sym labels) keeps)),
 )
 
 pub loop-reader-preserved : goal.loop-reader-preserved
@@ -37,7 +37,7 @@ loop-reader-preserved c = (
       let form = pair_form _ y.line _ (subst PairNext (sym c.advance.ensures.rest) next) c.in_ok-found.ensures.next.split in
       let (taken, keeps) = c.in_ok-add.ensures.pairs (pairs read.others) read.keeps in (
         before ++ (x.line ∷ []),
-        subst (λ (n : ℕ). TableRead p w file c.advance.new.self y.line n c.add.new.self.rows (before ++ (x.line ∷ []))) (sym c.in_ok-add.ensures.labels) (table_more gets read y.line form taken keeps (stands_on gets read next c.advance.ensures)),
+        subst (λ (n : ℕ). TableRead p w file c.advance.new.self y.line n c.add.new.self.order.rows (before ++ (x.line ∷ []))) (sym c.in_ok-add.ensures.labels) (table_more gets read y.line form taken keeps (stands_on gets read next c.advance.ensures)),
       ),
 )
 

@@ -9,7 +9,7 @@ use Rattle.report.proofs.file.read_table.Given as goal
 abbrev pub invariant-loop-reader : goal.invariant-loop-reader
 invariant-loop-reader l =
     Gets l.reader l.found
-    × ((p w : ℕ) (file : List ℕ) → Stands p w file l.initial.reader [] → l.initial.found.line.form ≡ Kind Table → (before : List Line) × TableRead p w file l.reader l.found.line l.builder.labels l.builder.rows before)
+    × ((p w : ℕ) (file : List ℕ) → Stands p w file l.initial.reader [] → l.initial.found.line.form ≡ Kind Table → (before : List Line) × TableRead p w file l.reader l.found.line l.builder.order.labels l.builder.order.rows before)
 
 abbrev pub decreases-loop-reader : goal.decreases-loop-reader
 decreases-loop-reader l = length l.reader.rest.now

@@ -12,6 +12,3 @@ returns-in-Sets c = subst (λ (k : AnyKind). Top (any_kind k) c.top-in-Sets.resu
 
 pub returns-in-House : goal.returns-in-House
 returns-in-House c = subst (λ (k : AnyKind). Top (any_kind k) c.top-in-House.result) (sym c.in-House.is) c.top-in-House.ensures
-
-pub returns-in-Table : goal.returns-in-Table
-returns-in-Table c = subst (λ (k : AnyKind). Top (any_kind k) c.top-in-Table.result) (sym c.in-Table.is) c.top-in-Table.ensures

@@ -31,10 +31,3 @@ loop-user-preserved c = λ p w before keeping shows.
       subst (λ (vs : List ℕ). Seen (kind_of before) (logic_of before) (book_of p w before) g vs all) (sym (take_more us i 0 (omega arith))) more,
       adds_same (sym (sight_lines_more g seen (get_or us i 0) told)) (adds_both adds c.sight_line.ensures),
     )
-
-pub returns : goal.returns
-returns c = λ p w before keeping shows.
-    let us = c.as_slice-user-items.result.now in
-    let i = c.loop-user.user-index in
-    let (seen, sights, adds) = c.loop-user.invariant p w before keeping shows in
-    (seen, subst (λ (vs : List ℕ). Seen (kind_of before) (logic_of before) (book_of p w before) c.args.goal vs seen) (take_all i us (omega arith) ∙ c.as_slice-user-items.ensures.value ∙ keeping.users) sights, adds)
