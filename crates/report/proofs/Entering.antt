@@ -8,7 +8,6 @@ use Rattle.labels.specs.Fault.{UserRefused}
 use Rattle.labels.specs.declared.fault.KindFault.{KindFault}
 use Rattle.labels.proofs.Orders.{same_sym}
 use Rattle.logics.specs.Entailment.{Entailment}
-use Rattle.logics.specs.declared.Record.{Record}
 use Rattle.logics.specs.declared.LogicFault.TheVariants.{RecordNotTaken}
 use Rattle.engine.specs.Book.{Book}
 use Rattle.engine.specs.Law.{checks, RefusedBy, Accepted}

@@ -1,8 +1,7 @@
 -- A file, line by line.
-use Rattle.std.proofs.Common.{◌≡◌, ℕ, ◌+◌, ◌<◌, ◌≤◌, List, [], ◌∷◌, ◌++◌, length, drop, Some, Err, Option, Result, IsErrAnd, sym, refl, ap, ◌∙◌, subst, inl, inr, append-nil, arith}
+use Rattle.std.proofs.Common.{◌≡◌, ℕ, ◌+◌, ◌<◌, ◌≤◌, List, [], ◌∷◌, ◌++◌, length, drop, Err, Option, Result, IsErrAnd, sym, refl, ap, ◌∙◌, subst, inl, inr, append-nil, arith}
 use Rattle.std.proofs.lemmas.Result.{err_from_is_err_and}
 use Rattle.base.specs.Checks.{FirstOf, NoneOf}
-use Rattle.base.specs.Words.{In}
 use Rattle.prints.specs.declared.Print.{Print}
 use Rattle.prints.specs.Output.{Adds}
 use Rattle.prints.proofs.Adding.{adds_both}
@@ -55,29 +54,19 @@ module _ {p w : ℕ} {file : List ℕ} {reader : Reader} {ls : List Line} (stand
       (elim after [ inl (early, _) ↦ absurd (omega arith) | inr (_, three, _) ↦ three ], few)
 
 module _ {p w : ℕ} {file : List ℕ} {begun : Print} {reader : Reader} {ls : List Line} {desk : Desk} {print : Print} (along : Along p w file begun reader ls desk print) where
-  module _ {x : Found} (gets : Gets reader x) where
-    pub along_more : NoneOf (line_checks p w ls x.line (drop x.length reader.rest.now)) → {desk' : Desk} → Keeping p w (ls ++ (x.line ∷ [])) desk'
-        → {print' : Print} → LinePrinted p w ls x.line print print' → {reader' : Reader} → Advanced reader x reader' → Along p w file begun reader' (ls ++ (x.line ∷ [])) desk' print'
-    along_more none keeping (s, prints, adds) moved =
-        let (three, _) = late_line along.stands along.late gets in
-        record {
-          stands = stands_more along.stands gets none moved;
-          late = (x.line.form, last_form_append ls x.line, omega arith);
-          keeping = keeping;
-          told = along.told ++ s;
-          prints = prints_more p w [] ls x.line along.told s along.prints prints;
-          printed = adds_both along.printed adds;
-        }
-
-    -- a line's step, with as many places and bytes
-    abbrev Step : ℕ → ℕ → (ℕ → ℕ → List Line → List ℕ → Type 0) → Type 0
-    Step q v Outcome =
-        (before : List Line) (behind : List ℕ) → 3 ≤ section x.line.form → (section x.line.form ≡ 4 → user_count before < 16) → Keeping q v before desk → Outcome q v before behind
-
-    pub step_here : (p' w' : ℕ) → p' ≡ p → w' ≡ w → (Outcome : ℕ → ℕ → List Line → List ℕ → Type 0) → Step p' w' Outcome → Outcome p w ls (drop x.length reader.rest.now)
-    step_here p' w' pe we Outcome step =
-        let (three, few) = late_line along.stands along.late gets in
-        subst (λ (q : ℕ). Step q w Outcome) pe (subst (λ (v : ℕ). Step p' v Outcome) we step) ls (drop x.length reader.rest.now) three few along.keeping
+  -- one line more
+  pub along_more : {x : Found} → Gets reader x → NoneOf (line_checks p w ls x.line (drop x.length reader.rest.now)) → {desk' : Desk} → Keeping p w (ls ++ (x.line ∷ [])) desk'
+      → {print' : Print} → LinePrinted p w ls x.line print print' → {reader' : Reader} → Advanced reader x reader' → Along p w file begun reader' (ls ++ (x.line ∷ [])) desk' print'
+  along_more {x} gets none keeping (s, prints, adds) moved =
+      let (three, _) = late_line along.stands along.late gets in
+      record {
+        stands = stands_more along.stands gets none moved;
+        late = (x.line.form, last_form_append ls x.line, omega arith);
+        keeping = keeping;
+        told = along.told ++ s;
+        prints = prints_more p w [] ls x.line along.told s along.prints prints;
+        printed = adds_both along.printed adds;
+      }
 
   -- no byte is left
   pub along_ends : reader.rest.now ≡ [] → (t : List ℕ) × PrintOf p w file t × Adds t begun print

@@ -3,8 +3,6 @@ use Rattle.std.proofs.Common.{◌≡◌, ℕ, ◌+◌, cond, eqb, List, [], ◌�
 use Rattle.labels.specs.Order.{LabelOrder, Same}
 use Rattle.engine.specs.declared.call.Call.{Call}
 use Rattle.lines.specs.declared.form.Form.{Form}
-use Rattle.lines.specs.declared.form.Form.TheVariants.{Logic as LogicLine}
-use Rattle.lines.specs.declared.form.LogicForm.TheVariants.{El as ElLine, Links as LinksLine}
 use Rattle.lines.specs.declared.form.Line.{Line}
 use Rattle.lines.specs.declared.read.Found.{Found}
 use Rattle.lines.specs.Forms.{section}
@@ -17,7 +15,7 @@ use Rattle.report.specs.declared.reader.Reader.{Reader}
 use Rattle.report.specs.Any.{any_kind}
 use Rattle.report.specs.Meaning.{calls_by, booked, book_of}
 use Rattle.report.specs.Checks.{Refuses, early}
-use Rattle.report.specs.Report.{LinePrints, Prints}
+use Rattle.report.specs.Report.{LinePrints}
 use Rattle.report.specs.Stands.{Gets, Stops, Stands, Opened, Quiet, KindRead, LogicChosen}
 use Rattle.report.proofs.Standing.{lines_of_append, last_form_append, kind_of_same, users_of_same, book_of_more, prints_more}
 use Rattle.report.proofs.Files.{refused_here, refused_text}

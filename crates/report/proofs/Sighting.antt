@@ -1,5 +1,5 @@
 -- What the sheet answers about a goal that is taken and published.
-use Rattle.std.proofs.Common.{◌≡◌, ℕ, zero, suc, ◌<◌, ◌≤◌, Bool, T, List, [], ◌∷◌, ◌++◌, length, get_or, take, Ok, Err, Option, sym, refl, ap, ◌∙◌, subst, inl, inr, append_assoc, append-nil, arith}
+use Rattle.std.proofs.Common.{◌≡◌, ℕ, Bool, T, List, [], ◌∷◌, ◌++◌, Ok, Err, Option, sym, refl, ap, ◌∙◌, subst, append-nil}
 use Rattle.std.proofs.lemmas.Grind.{flat_map-append}
 use Rattle.base.specs.Words.{Iff, In}
 use Rattle.base.proofs.Checks.{none_first}
@@ -7,7 +7,7 @@ use Rattle.labels.specs.Order.{LabelOrder, JoinPrime, Same}
 use Rattle.labels.proofs.Orders.{same_sym}
 use Rattle.logics.specs.Entailment.{Entailment, Goal}
 use Rattle.engine.specs.Book.{Book}
-use Rattle.engine.specs.Law.{checks, RefusedBy, Accepted}
+use Rattle.engine.specs.Law.{checks, Accepted}
 use Rattle.engine.specs.Obeys.{Obeys}
 use Rattle.engine.specs.Sight.{IsBoundary, Sees}
 use Rattle.engine.specs.declared.call.SheetFault.{SheetFault}

@@ -21,11 +21,10 @@ use Rattle.report.specs.declared.any.AnyKind.{AnyKind}
 use Rattle.report.specs.declared.fault.Cause.TheVariants.{Kind}
 use Rattle.report.specs.declared.reader.Reader.{Reader}
 use Rattle.report.specs.Any.{any_kind}
-use Rattle.report.specs.Meaning.{at, two, pairs, kind_by, kind_of, book_of}
-use Rattle.report.specs.Checks.{PairNext, table_size, checks_by, line_checks, Refuses}
-use Rattle.report.specs.Report.{Prints}
-use Rattle.report.specs.Stands.{Gets, Stands, Advanced, LogicNext, Quiet, KindRead, TableRead}
-use Rattle.report.proofs.Standing.{lines_of_append, lines_of_other, lines_of_same, users_of_same, stands_more}
+use Rattle.report.specs.Meaning.{at, two, pairs, kind_by, kind_of}
+use Rattle.report.specs.Checks.{PairNext, table_size, line_checks, Refuses}
+use Rattle.report.specs.Stands.{Gets, Stands, Advanced, LogicNext, KindRead, TableRead}
+use Rattle.report.proofs.Standing.{lines_of_append, lines_of_other, lines_of_same, stands_more}
 use Rattle.report.proofs.Stepping.{first_by, none_by}
 use Rattle.report.proofs.Files.{refused_check}
 use Rattle.report.proofs.Openings.{quiet_none, quiet_more}

@@ -1,6 +1,6 @@
 -- What a reader and a desk hold of the lines that have been read. These are the words of the inner contracts: no meaning
 -- rests on them.
-use Rattle.std.specs.Prelude.{◌≡◌, ℕ, ◌+◌, ◌<◌, ◌≤◌, Bool, ◌⊎◌, List, [], ◌∷◌, ◌++◌, length, take, drop, Some, Ok, Err, Option, Result, ◌≢◌}
+use Rattle.std.specs.Prelude.{◌≡◌, ℕ, ◌+◌, ◌<◌, ◌≤◌, Bool, ◌⊎◌, List, [], ◌∷◌, ◌++◌, length, drop, Some, Ok, Err, Result, ◌≢◌}
 use Rattle.base.specs.Words.{In}
 use Rattle.base.specs.Checks.{FirstOf, NoneOf}
 use Rattle.labels.specs.Order.{JoinPrime, Same}

@@ -19,6 +19,8 @@ use logics::{LogicFault, Record};
 use prints::Print;
 
 // A sheet, and the users that its file names, in the file's order.
+// kept: places and work area are handed over one by one: a struct of both would hold two `&mut`, and every clause would have to
+// say that it still holds the same ones
 #[derive(Drop)]
 pub struct Desk {
     sheet: Sheet<AnyKind, AnyLogic>,

@@ -1,9 +1,6 @@
 use Rattle.std.proofs.Common.{[], ◌∷◌, ◌++◌}
 use Rattle.prints.proofs.Adding.{adds_none}
-use Rattle.base.specs.Checks.{FirstOf, NoneOf}
-use Rattle.report.specs.Checks.{line_checks}
-use Rattle.report.specs.Stands.{Keeping, LinePrinted}
-use Rattle.report.proofs.Files.{passed_on, refused_check, along_stops, step_here, along_more, along_ends}
+use Rattle.report.proofs.Files.{passed_on, refused_check, late_line, along_stops, along_more, along_ends}
 use Rattle.report.proofs.file.read_sheet.Goals as goal
 
 pub loop-desk-init : goal.loop-desk-init
@@ -12,14 +9,11 @@ loop-desk-init c = λ file before stands opened.
 
 pub loop-desk-preserved : goal.loop-desk-preserved
 loop-desk-preserved c = λ file before stands opened.
-    let x = c.in_ok-found.found in
     let gets = c.in_ok-found.ensures in
     let (ls, along) = c.loop-desk.invariant file before stands opened in
-    let (none, (kept, printed)) =
-    step_here along gets _ _ c.loop-desk.auto.places c.loop-desk.auto.area
-    (λ p w ms behind. NoneOf (line_checks p w ms x.line behind) × (Keeping p w (ms ++ (x.line ∷ [])) c.take_line.new.self × LinePrinted p w ms x.line c.loop-desk.print c.take_line.new.print))
-    c.in_ok-take_line.ensures in
-    (ls ++ (x.line ∷ []), along_more along gets none kept printed c.advance.ensures)
+    let (three, few) = late_line along.stands along.late gets in
+    let (none, (kept, printed)) = (rw (c.loop-desk.auto.places, c.loop-desk.auto.area) at c.in_ok-take_line.ensures) ls _ three few along.keeping in
+    (ls ++ (c.in_ok-found.found.line ∷ []), along_more along gets none kept printed c.advance.ensures)
 
 pub returns-in_err-found : goal.returns-in_err-found
 returns-in_err-found c = λ file before stands opened.
@@ -28,11 +22,10 @@ returns-in_err-found c = λ file before stands opened.
 
 pub returns-in_err-take_line : goal.returns-in_err-take_line
 returns-in_err-take_line c = λ file before stands opened.
-    let x = c.in_ok-found.found in
     let gets = c.in_ok-found.ensures in
     let (ls, along) = c.loop-desk.invariant file before stands opened in
-    rw (passed_on c.from_residual-in_err-take_line.ensures.1) (refused_check along.stands gets
-    (step_here along gets _ _ c.loop-desk.auto.places c.loop-desk.auto.area (λ p w ms behind. FirstOf (line_checks p w ms x.line behind) c.in_err-take_line.field-0.0) c.in_err-take_line.ensures))
+    let (three, few) = late_line along.stands along.late gets in
+    rw (passed_on c.from_residual-in_err-take_line.ensures.1) (refused_check along.stands gets ((rw (c.loop-desk.auto.places, c.loop-desk.auto.area) at c.in_err-take_line.ensures) ls _ three few along.keeping))
 
 pub returns : goal.returns
 returns c = λ file before stands opened.

@@ -1,4 +1,4 @@
-use Rattle.std.proofs.Common.{◌≡◌, ℕ, Ok, Err, Result, IsOk, OnOk, MatchResult, subst, refl, arith}
+use Rattle.std.proofs.Common.{◌≡◌, Ok, Err, Result, IsOk, OnOk, MatchResult, subst, refl, arith}
 use Rattle.labels.specs.Order.{JoinPrime}
 use Rattle.labels.specs.Fault.{UserRefused}
 use Rattle.report.specs.declared.any.AnyKind.{AnyKind}

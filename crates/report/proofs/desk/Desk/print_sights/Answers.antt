@@ -1,5 +1,5 @@
 use Rattle.std.proofs.Common.{ℕ, Bool, List, ◌∷◌, [], ◌++◌, get_or, take, sym, ◌∙◌, subst, arith}
-use Rattle.std.proofs.lemmas.List.{take_more, take_all}
+use Rattle.std.proofs.lemmas.List.{take_more}
 use Rattle.base.specs.Words.{In}
 use Rattle.ordered.proofs.Lists.{get_or_in}
 use Rattle.prints.proofs.Adding.{adds_both, adds_same}
