@@ -2,3 +2,4 @@ pub mod Rounds
 pub mod Canonical
 pub mod Walks
 pub mod Selections
+pub mod Marking

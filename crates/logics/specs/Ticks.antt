@@ -1,5 +1,5 @@
 -- Cells that are ticked, one after another.
-use Rattle.std.specs.Prelude.{cond, ◌==◌, ◌≡◌, ℕ, ◌<◌, ◌≤◌, Bool, true, false, ◌||◌, ◌≢◌, List, length, slice_index, slice_set, refl}
+use Rattle.std.specs.Prelude.{cond, ◌==◌, ◌≡◌, ℕ, ◌<◌, ◌≤◌, Bool, true, false, ◌||◌, ◌≢◌, zero, suc, List, [], ◌∷◌, length, drop, slice_index, slice_set, refl}
 use Rattle.std.proofs.Common.{sym, ap, subst, ◌∙◌, arith, get_or-set_same, get_or-set_other}
 use Rattle.std.specs.Bool.{MatchBool}
 use Rattle.std.proofs.lemmas.List.Sums.{sum_by-set}
@@ -11,6 +11,13 @@ blanks_tick : (l : List ℕ) (k : ℕ) → k < length l → slice_index l k ≡ 
 blanks_tick l k lt e =
     let moved = sum_by-set (λ x. cond (x == 0) 1 0) l k 1 0 lt in
     omega (arith, rw e at moved)
+
+-- what lies behind the cells is left
+drop_tick : (l : List ℕ) (n k : ℕ) → k < n → drop n (slice_set l k 1) ≡ drop n l
+drop_tick [] n k lt = refl
+drop_tick (x ∷ xs) zero k lt = absurd (omega arith)
+drop_tick (x ∷ xs) (suc n) zero lt = refl
+drop_tick (x ∷ xs) (suc n) (suc k) lt = drop_tick xs n k (omega arith)
 
 kept_tick : (l : List ℕ) (k j : ℕ) → k < length l → Ticked l j → Ticked (slice_set l k 1) j
 kept_tick l k j lt h =
@@ -27,6 +34,7 @@ module _ {bytes : ℕ} {May : ℕ → Type 0} where
   pub tick_none : {Done : List ℕ → Type 0} {before after : List ℕ} → after ≡ before → Done after → Ticking bytes May Done before after false
   tick_none e d =
       record {
+        others = rw e refl;
         kept = λ j h. rw e h;
         sound = λ all. rw e all;
         fewer = λ never. absurd (false≢true never);
@@ -38,6 +46,7 @@ module _ {bytes : ℕ} {May : ℕ → Type 0} where
   tick_one k before after true lt wide may (blank, e) =
       let low : k < length before = omega arith in
       record {
+        others = rw e (drop_tick before bytes k lt);
         kept = λ j h. rw e (kept_tick before k j low h);
         sound = λ all j within h. elim (ℕ_discrete j k) [ yes same ↦ rw same (may all) | no ne ↦ all j within (only_tick before k j ne (rw e at h)) ];
         fewer = λ _. rw e (blanks_tick before k low blank);
@@ -49,6 +58,7 @@ module _ {bytes : ℕ} {May : ℕ → Type 0} where
   pub tick_then : {D E F : List ℕ → Type 0} {a b c : List ℕ} (s t : Bool) → Ticking bytes May D a b s → Ticking bytes May E b c t → ((l : List ℕ) → D l → E l → F l) → Ticking bytes May F a c (s || t)
   tick_then {D} {E} {F} {a} {b} {c} s t p q both =
       record {
+        others = q.others ∙ p.others;
         kept = λ j h. q.kept j (p.kept j h);
         sound = λ all. q.sound (p.sound all);
         fewer = fewer s t p.fewer q.fewer (λ e. (p.done e).0) (λ e. (q.done e).0);
@@ -71,6 +81,7 @@ module _ {bytes : ℕ} {May : ℕ → Type 0} where
   pub tick_weaker : {D E : List ℕ → Type 0} {a b : List ℕ} {s : Bool} → ((l : List ℕ) → D l → E l) → Ticking bytes May D a b s → Ticking bytes May E a b s
   tick_weaker weaker p =
       record {
+        others = p.others;
         kept = p.kept;
         sound = p.sound;
         fewer = p.fewer;

@@ -1,5 +1,5 @@
 -- What is done to the cells of a work area: cell k is its byte at k, and is ticked when that is not 0.
-use Rattle.std.specs.Prelude.{count_by, ◌≡◌, ℕ, ◌<◌, Bool, true, false, List, ◌==◌, slice_index, slice_index_or, slice_set}
+use Rattle.std.specs.Prelude.{count_by, ◌≡◌, ℕ, ◌<◌, Bool, true, false, List, drop, ◌==◌, slice_index, slice_index_or, slice_set}
 
 -- cell k is ticked
 abbrev pub Ticked : List ℕ → ℕ → Type 0
@@ -26,6 +26,7 @@ Sound bytes May cells = (k : ℕ) → k < bytes → Ticked cells k → May k
 
 -- some of the first cells, that may be, were ticked; if none was, then nothing is left to do
 pub record Ticking (bytes : ℕ) (May : ℕ → Type 0) (Done : List ℕ → Type 0) (before after : List ℕ) (changed : Bool) : Type 0 where
+  pub others : drop bytes after ≡ drop bytes before
   pub kept : (k : ℕ) → Ticked before k → Ticked after k
   pub sound : Sound bytes May before → Sound bytes May after
   pub fewer : changed ≡ true → blanks after < blanks before
