@@ -22,6 +22,7 @@ fn make<K: LabelKind, L: Logic>(
         Call::Enter(entry, label) => sheet.enter(entry, label).map(Answer::Entered),
         Call::Withdraw(number) => sheet.withdraw(number).map(|_| Answer::Done),
         Call::Relabel(number, label) => sheet.relabel(number, label).map(|_| Answer::Done),
+        // two arms: the one asks the sheet, and the other changes it
         Call::Supports(goal, most, bytes) => {
             let (p, w) = (most.min(places.len()), bytes.min(area.len()));
             let count = sheet.supports(goal, &mut places[..p], &mut area[..w]);
@@ -54,7 +55,7 @@ pub fn run<K: LabelKind, L: Logic>(
 {
     let mut sheet = Sheet::open(kind, logic);
     let count = calls.len().min(answers.len());
-    // no `zip` with the answers: nothing is known of what is written through an adapter of `iter_mut`
+    // no `zip` with the answers: a proof would know nothing of the answers that are written through it
     for (i, call) in calls[..count].iter().enumerate() {
         answers[i] = make(&mut sheet, *call, places, area);
     }

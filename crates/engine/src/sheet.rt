@@ -17,7 +17,7 @@ use labels::kind::LabelKind;
 use logics::{Logic, Record, take_goal, take_record};
 use supports::find_supports;
 
-// Places and work area stay two parameters: a struct of two `&mut` would need a clause in each method, that it still lends the same two.
+// Places and work area are lent by the caller, and stay the two parameters of each call that searches.
 
 // A sheet: axioms with labels, of one label kind and one logic, and the rows of the published goals.
 #[derive(Drop)]
@@ -149,7 +149,7 @@ impl<K: LabelKind, L: Logic> Sheet<K, L> {
         take_goal(&self.logic, goal)?;
         check_user(&self.kind, user)?;
         let boundary = self.rows.lookup(goal).ok_or(SheetFault::NotPublished)?;
-        // no `is_some_and`: that the boundary may be absent has a line of its own here
+        // no `is_some_and`: what nothing supports is seen by no one, and that case has a line of its own
         match boundary {
             None => Ok(false),
             Some(bound) => Ok(self.kind.at_or_below(user, bound)),
@@ -202,6 +202,7 @@ impl<K: LabelKind, L: Logic> Sheet<K, L> {
     fn boundary_of(&self, supports: &[u64]) -> Option<u32>
         ensures { (b : Book) → Holds K.meaning L.meaning self.now b → (g : Goal) → AllSupports (L.meaning self.now.logic) b g supports.now → IsBoundary (K.meaning self.now.kind) (L.meaning self.now.logic) b g result }
     {
+        // a loop, not `map` and `reduce`: a meet and a join are known by relations, and over the chain the proof did not close
         let mut bound: Option<u32> = None;
         for support in supports {
             let meet = self.meet_of(*support);

@@ -20,15 +20,11 @@ mod tests {
     }
 
     fn el_sheet() -> Result<Sheet<Chain, El>, Fail> {
-        let kind = Chain::new(6).map_err(|_| Fail::new("chain 6"))?;
-        let logic = El::new(3, 0).map_err(|_| Fail::new("el 3, 0"))?;
-        Ok(Sheet::open(kind, logic))
+        Ok(Sheet::open(Chain::new(6)?, El::new(3, 0)?))
     }
 
     fn links_sheet() -> Result<Sheet<Chain, Links>, Fail> {
-        let kind = Chain::new(6).map_err(|_| Fail::new("chain 6"))?;
-        let logic = Links::new(4).map_err(|_| Fail::new("links 4"))?;
-        Ok(Sheet::open(kind, logic))
+        Ok(Sheet::open(Chain::new(6)?, Links::new(4)?))
     }
 
     // A goal that follows from nothing has the empty support alone.

@@ -14,46 +14,52 @@ const NAMES: [&str; 6] = [
 ];
 
 // The axioms, and what each says. Role 0 is "holds".
-const AXIOMS: [Record; 5] = [
-    Record {
-        form: Form::Lies as u16,
-        a: 3,
-        b: 1,
-        c: 0,
-    },
-    Record {
-        form: Form::Lies as u16,
-        a: 3,
-        b: 2,
-        c: 0,
-    },
-    Record {
-        form: Form::Both as u16,
-        a: 1,
-        b: 2,
-        c: 3,
-    },
-    Record {
-        form: Form::Partner as u16,
-        a: 4,
-        b: 0,
-        c: 3,
-    },
-    Record {
-        form: Form::Source as u16,
-        a: 0,
-        b: 2,
-        c: 5,
-    },
-];
-
-// kept: an array beside the axioms, since the logic is asked about a slice of records
-const SAYINGS: [&str; 5] = [
-    "Every wax ribbon is a ribbon.",
-    "Every wax ribbon is a wax thing.",
-    "What is a ribbon and a wax thing is a wax ribbon.",
-    "Every label printer holds a wax ribbon.",
-    "What holds a wax thing is a paper printer.",
+const AXIOMS: [(Record, &str); 5] = [
+    (
+        Record {
+            form: Form::Lies as u16,
+            a: 3,
+            b: 1,
+            c: 0,
+        },
+        "Every wax ribbon is a ribbon.",
+    ),
+    (
+        Record {
+            form: Form::Lies as u16,
+            a: 3,
+            b: 2,
+            c: 0,
+        },
+        "Every wax ribbon is a wax thing.",
+    ),
+    (
+        Record {
+            form: Form::Both as u16,
+            a: 1,
+            b: 2,
+            c: 3,
+        },
+        "What is a ribbon and a wax thing is a wax ribbon.",
+    ),
+    (
+        Record {
+            form: Form::Partner as u16,
+            a: 4,
+            b: 0,
+            c: 3,
+        },
+        "Every label printer holds a wax ribbon.",
+    ),
+    (
+        Record {
+            form: Form::Source as u16,
+            a: 0,
+            b: 2,
+            c: 5,
+        },
+        "What holds a wax thing is a paper printer.",
+    ),
 ];
 
 // A goal, and the axioms that are marked.
@@ -70,7 +76,8 @@ const QUESTIONS: [Question; 6] = [
 
 fn answer(el: &El, marks: u64, goal: (u32, u32)) -> bool {
     let mut area = [0u8; 36];
-    el.follows(&AXIOMS, marks, goal, &mut area)
+    let axioms = AXIOMS.map(|(axiom, _)| axiom);
+    el.follows(&axioms, marks, goal, &mut area)
 }
 
 fn print_marked(rt: &impl Print, marks: u64) -> io::Result<()> {
@@ -99,7 +106,7 @@ fn print_answers(rt: &impl Print, el: &El) -> io::Result<()> {
 }
 
 fn main(rt: HostRuntime) -> io::Result<()> {
-    for (place, saying) in SAYINGS.iter().enumerate() {
+    for (place, (_, saying)) in AXIOMS.iter().enumerate() {
         let number = place + 1;
         println!(rt; "Axiom {number}: {saying}")?;
     }

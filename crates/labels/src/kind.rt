@@ -2,7 +2,8 @@ ghost use Rattle.std.specs.Prelude.{◌≡◌, T};
 ghost use Rattle.base.specs.Words.{Iff};
 ghost use Rattle.labels.specs.Order.{LabelOrder, Label, Under, Top, Meets, Joins, JoinPrime, Lawful};
 
-// A label kind: what its labels are, and how they are ordered. No question changes anything.
+// A label kind: what its labels are, and how they are ordered. No question changes anything. Each kind guards its own meet and join, since
+// a guard here would ask two more methods of each.
 pub trait LabelKind: Drop {
     ghost meaning: { Self → LabelOrder };
 

@@ -52,7 +52,7 @@ pub fn place_of<E: Ranked>(list: &[E], x: E) -> Result<usize, usize>
 pub struct NoRoom;
 
 // Puts x in at `place` among the first `count` entries, and moves those from there on up by one.
-// Without room nothing changes.
+// Without room nothing changes. The count stands beside the slice, which is lent by the caller or lies in the sheet.
 pub fn insert<E: Copy>(list: &mut [E], count: usize, place: usize, x: E) -> Result<(), NoRoom>
     ensures room { Iff (IsOk result) ((count < length list.old) × (place ≤ count)) }
     ensures put { OnOk result (list.new ≡ opened list.old count place x) }

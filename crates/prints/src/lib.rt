@@ -6,7 +6,7 @@ ghost use Rattle.prints.specs.Print.{numbers, axioms, bound, word, boundary_line
 
 use base::contains;
 
-// What is printed into an output: so many bytes of it, or more than the output has room for.
+// What is printed into an output that is lent: so many bytes of it, or `None` once there was no room.
 #[derive(Debug, Drop)]
 pub struct Print<'a> {
     out: &'a mut [u8],
@@ -49,14 +49,11 @@ impl<'a> Print<'a> {
     }
 
     // A number, in decimal digits.
-    // Kept: `write!` may answer an error, which no contract of std rules out here, and any other crate is one more to trust.
     pub fn number(&mut self, n: u64)
         ensures { Adds (decimal n) self.old self.new }
     {
-        if n >= 10 {
-            self.number(n / 10);
-        }
-        self.byte(b'0' + (n % 10) as u8);
+        let mut digits = itoa::Buffer::new();
+        self.text(digits.format(n).as_bytes());
     }
 
     // A comma, and then a number.

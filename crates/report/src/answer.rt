@@ -10,6 +10,7 @@ pub fn answer_file(file: &[u8], places: &mut [u64], area: &mut [u8], output: &mu
     ensures within { result ≤ length output.old }
     ensures told { Answers (length places.old) (length area.old) (length output.old) file.now (take result output.new) }
 {
+    // a `match`, since a proof would not know what a closure had written into the output
     match report(file, places, area, output) {
         Ok(length) => length,
         Err(fault) => fault_line(fault, output).unwrap_or(0),

@@ -31,6 +31,7 @@ pub struct ReportFault {
     pub cause: Cause,
 }
 
+// The four `From` are written by hand: a derived one does not say which cause it makes.
 impl From<TextFault> for Cause {
     ghost from_gives = { λ f c. c ≡ Text f };
 

@@ -6,8 +6,7 @@ use base::{contains, with_place};
 use logics::Logic;
 use ordered::NoRoom;
 
-// kept: the places as a slice with a count beside it, since a struct that holds the slice needs one clause more in each method, which
-// says that it still holds that slice
+// kept: places and work area are lent by the caller, which is a rule of the project, and the count of the places in use stands beside them
 impl<'a, L: Logic> Question<'a, L> {
     ghost use Rattle.supports.specs.Asked.{asked, Yields, AllSupports, MoreThan, Ready, Known};
     ghost use Rattle.supports.specs.Search.{HitsAll, Earlier};

@@ -27,6 +27,7 @@ pub fn prime_set(joins: &[[u8; 32]; 32], down: &Order) -> u32
     ensures { SplitSet down.now.labels down.now.rows joins.now result }
 {
     let mut primes = down.all();
+    // a loop over numbers: `prime_row` reads the rows of a and of each b
     for a in 0..down.labels as usize {
         primes &= prime_row(joins, down, a);
     }
