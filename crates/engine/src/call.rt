@@ -43,6 +43,7 @@ pub enum SheetFault {
     Logic(LogicFault),
 }
 
+// Both `From` are written by hand: a derived one does not say which fault it makes.
 impl From<KindFault> for SheetFault {
     ghost from_gives = { λ f g. g ≡ Kind f };
 

@@ -17,6 +17,8 @@ use labels::kind::LabelKind;
 use logics::{Logic, Record, take_goal, take_record};
 use supports::find_supports;
 
+// Places and work area stay two parameters: a struct of two `&mut` would need a clause in each method, that it still lends the same two.
+
 // A sheet: axioms with labels, of one label kind and one logic, and the rows of the published goals.
 #[derive(Drop)]
 pub struct Sheet<K, L> {

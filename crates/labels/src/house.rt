@@ -8,6 +8,7 @@ use crate::kind::LabelKind;
 use crate::square::entry;
 
 // The meet of a and b stands in row a, at place b.
+// kept: constant tables, each of which the checker computes as a whole from its rule
 const MEETS: [[u8; 12]; 12] = [
     [0, 0, 0, 0, 0, 0, 0, 0, 0, 0, 0, 0],
     [0, 1, 0, 1, 0, 1, 0, 1, 0, 1, 0, 1],

@@ -6,7 +6,7 @@ use Rattle.lines.specs.declared.form.Section.{Section}
 use Rattle.lines.specs.declared.form.Section.TheVariants.{Kind as Kinds, Pairs, Logic as Logics, Axioms, Users, Goals}
 use Rattle.lines.specs.declared.form.KindForm.TheVariants.{Chain, Sets, House, Table}
 use Rattle.lines.specs.declared.form.LogicForm.TheVariants.{El, Links}
-use Rattle.lines.specs.declared.form.AxiomForm.TheVariants.{Lies, Both, Partner, Source, Link}
+use Rattle.logics.specs.declared.form.Form.TheVariants.{Lies, Both, Partner, Source, Link}
 
 -- the letter of a line and, for a kind or a logic, its word
 abbrev pub opening : Form → List ℕ

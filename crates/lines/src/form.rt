@@ -1,6 +1,9 @@
 ghost use Rattle.std.specs.Prelude.{◌≡◌, T};
 ghost use Rattle.base.specs.Words.{Iff};
 
+// The form of an axiom: S, C, E, R and T.
+pub use logics::Form as AxiomForm;
+
 // The label kind that a K line names.
 #[derive(Clone, Copy, PartialEq, Eq, Debug)]
 pub enum KindForm {
@@ -15,16 +18,6 @@ pub enum KindForm {
 pub enum LogicForm {
     El,
     Links,
-}
-
-// The form of an axiom: S, C, E, R and T, each with the number that records have for it.
-#[derive(Clone, Copy, PartialEq, Eq, Debug)]
-pub enum AxiomForm {
-    Lies = 1,
-    Both = 2,
-    Partner = 3,
-    Source = 4,
-    Link = 5,
 }
 
 // The form of a line, told by its first field and, for K and G, its second.

@@ -1,24 +1,25 @@
 -- The interpretation that the cells of a work area draw: what the records say of a row, once nothing is left to tick there.
-use Rattle.std.proofs.Common.{◌≡◌, ℕ, ◌<◌, Bool, true, false, ◌&&◌, ◌||◌, T, eqb, List, [], ◌∷◌, sym, refl, subst, inl, inr, arith}
+use Rattle.std.proofs.Common.{◌≡◌, ℕ, ◌<◌, Bool, true, false, ◌||◌, T, List, [], ◌∷◌, sym, refl, subst, inl, inr, arith}
 use native.Mathlib.Decide.{dec_lt}
-use lib.Dec.{eqb_refl}
-use Rattle.std.proofs.Math.Facts.{and_yes, yes_and, or_yes}
-use Rattle.base.specs.Words.{In}
+use Rattle.std.specs.List.{list_any}
+use Rattle.std.proofs.Math.Facts.{and_yes, yes_and}
+use Rattle.base.specs.Words.{Iff, In}
 use Rattle.base.proofs.Tests.{eqb_iff, ltb_iff}
-use Rattle.logics.specs.Drawing.{in_row, row, drawn_concept, partner, drawn_role, DrawnAt, AllDrawn}
+use Rattle.logics.specs.Drawing.{row, drawn_concept, pairs, drawn_role, DrawnAt, AllDrawn}
 use Rattle.logics.specs.Plan.{SettledAt, cell}
 use Rattle.logics.specs.Entailment.{Each, Goal}
 use Rattle.logics.specs.Interpretation.{Interpretation, Satisfies, Entails}
 use Rattle.logics.specs.WorkArea.{Ticked}
 use Rattle.logics.specs.declared.Record.{Record}
 
-yes_or_left : (a b : Bool) → T a → T (a || b)
-yes_or_left true b t = tt
-yes_or_left false b t = absurd t
-
-yes_or_right : (a b : Bool) → T b → T (a || b)
-yes_or_right true b t = tt
-yes_or_right false b t = t
+-- some record passes a test
+some : (test : Record → Bool) (rs : List Record) → Iff (T (list_any test rs)) ((r : Record) × In r rs × T (test r))
+some test [] = (λ t. absurd t, λ p. absurd p.1)
+some test (x ∷ xs) = first_or_later (test x) refl (some test xs)
+  where
+    first_or_later : (b : Bool) → test x ≡ b → Iff (T (list_any test xs)) ((r : Record) × In r xs × T (test r)) → Iff (T (b || list_any test xs)) ((r : Record) × In r (x ∷ xs) × T (test r))
+    first_or_later true passes rest = (λ _. (x, inl refl, rw passes tt), λ _. tt)
+    first_or_later false fails rest = (λ t. let (r, i, h) = rest.0 t in (r, inr i, h), λ p. elim p.1 [ inl e ↦ absurd (rw (e, fails) at p.2) | inr i ↦ rest.1 (p.0, i, p.2) ])
 
 -- what a record r of form 4 asks of the row of x, given one of form 3
 abbrev pub Pulled : ℕ → ℕ → Record → Record → List ℕ → Type 0
@@ -38,36 +39,15 @@ module _ (n : ℕ) (cells : List ℕ) where
   pub drawn_ticked : (c x : ℕ) → T (drawn_concept n cells c x) → Ticked cells (cell n (x, c))
   drawn_ticked c x t = (ltb_iff 0 _).0 (and_yes _ _ t).1
 
-  record Partner (role x y : ℕ) (rs : List Record) : Type 0 where
-    by : Record
-    given : In by rs
-    form : by.form ≡ 3
-    role_is : by.b ≡ role
-    to : by.c ≡ y
-    has : Ticked cells (cell n (x, by.a))
-
-  some_partner : (role x y : ℕ) (rs : List Record) → T (partner n cells role x y rs) → Partner role x y rs
-  some_partner role x y [] t = absurd t
-  some_partner role x y (r ∷ rs) t =
-      elim (or_yes _ _ t) [
-        | inl h ↦
-            let form = and_yes _ _ h in
-            let by_role = and_yes _ _ form.1 in
-            let to = and_yes _ _ by_role.1 in
-            record { by = r; given = inl refl; form = (eqb_iff _ _).0 form.0; role_is = (eqb_iff _ _).0 by_role.0; to = (eqb_iff _ _).0 to.0; has = (ltb_iff 0 _).0 to.1 }
-        | inr h ↦
-            let p = some_partner role x y rs h in
-            record { by = p.by; given = inr p.given; form = p.form; role_is = p.role_is; to = p.to; has = p.has }
-      ]
-
-  partner_by : (r : Record) (x : ℕ) (rs : List Record) → In r rs → r.form ≡ 3 → Ticked cells (cell n (x, r.a)) → T (partner n cells r.b x r.c rs)
-  partner_by r x [] i form t = absurd i
-  partner_by r x (s ∷ rs) (inl e) form t =
-      let P : Record → Type 0 = λ q. T ((eqb q.form 3 && (eqb q.b r.b && (eqb q.c r.c && in_row n cells x q.a))) || partner n cells r.b x r.c rs) in
-      let to = yes_and (eqb r.c r.c) _ (eqb_refl r.c) ((ltb_iff 0 _).1 t) in
-      let by_role = yes_and (eqb r.b r.b) _ (eqb_refl r.b) to in
-      subst P e (yes_or_left _ _ (yes_and (eqb r.form 3) _ ((eqb_iff _ _).1 form) by_role))
-  partner_by r x (s ∷ rs) (inr i) form t = yes_or_right _ _ (partner_by r x rs i form t)
+  paired : (role x y : ℕ) (r : Record) → Iff (T (pairs n cells role x y r)) ((r.form ≡ 3) × (r.b ≡ role) × (r.c ≡ y) × Ticked cells (cell n (x, r.a)))
+  paired role x y r = (
+    λ t.
+        let form = and_yes _ _ t in
+        let by = and_yes _ _ form.1 in
+        let to = and_yes _ _ by.1 in
+        ((eqb_iff _ _).0 form.0, (eqb_iff _ _).0 by.0, (eqb_iff _ _).0 to.0, (ltb_iff 0 _).0 to.1),
+    λ p. yes_and _ _ ((eqb_iff _ _).1 p.0) (yes_and _ _ ((eqb_iff _ _).1 p.1) (yes_and _ _ ((eqb_iff _ _).1 p.2) ((ltb_iff 0 _).1 p.3))),
+  )
 
   module _ (rs : List Record) (x : ℕ) (r : Record) where
     -- a row that is not reached
@@ -106,7 +86,7 @@ module _ (n : ℕ) (cells : List ℕ) where
           partner = λ _ t.
               let a = drawn_ticked r.a x t in
               let there = row_drawn r.c lt (top a a) in
-              (r.c, yes_and _ _ (drawn_row r.a x t) (yes_and _ _ there (partner_by r x rs given form a)), concept_drawn r.c r.c there (own a a));
+              (r.c, yes_and _ _ (drawn_row r.a x t) (yes_and _ _ there ((some _ rs).1 (r, given, (paired r.b x r.c r).1 (form, refl, refl, a)))), concept_drawn r.c r.c there (own a a));
           source = λ f. absurd (omega arith);
         }
 
@@ -118,9 +98,10 @@ module _ (n : ℕ) (cells : List ℕ) where
           partner = λ f. absurd (omega arith);
           source = λ _ y t u.
               let here = and_yes _ _ t in
-              let p = some_partner r.a x y rs (and_yes _ _ here.1).1 in
-              let there = subst (λ (z : ℕ). Ticked cells (cell n (z, r.b))) (sym p.to) (drawn_ticked r.b y u) in
-              concept_drawn r.c x here.0 (all p.by p.given p.form p.role_is p.has there);
+              let (p, given, is) = (some _ rs).0 (and_yes _ _ here.1).1 in
+              let (three, role, to, has) = (paired r.a x y p).0 is in
+              let there = subst (λ (z : ℕ). Ticked cells (cell n (z, r.b))) (sym to) (drawn_ticked r.b y u) in
+              concept_drawn r.c x here.0 (all p given three role has there);
         }
 
   -- where each record holds at each row, what follows is ticked

@@ -19,9 +19,13 @@ module _ (n : ℕ) (cells : List ℕ) where
   abbrev pub drawn_concept : ℕ → ℕ → Bool
   drawn_concept c x = row x && in_row x c
 
-  -- does one of the records make y a partner of x by the role?
+  -- does the record make y a partner of x by the role?
+  abbrev pub pairs : ℕ → ℕ → ℕ → Record → Bool
+  pairs role x y r = r.form == 3 && (r.b == role && (r.c == y && in_row x r.a))
+
+  -- does one of the records?
   abbrev pub partner : ℕ → ℕ → ℕ → List Record → Bool
-  partner role x y = list_any (λ r. r.form == 3 && (r.b == role && (r.c == y && in_row x r.a)))
+  partner role x y = list_any (pairs role x y)
 
   -- two elements are related as a record makes them partners
   abbrev pub drawn_role : List Record → ℕ → ℕ → ℕ → Bool

@@ -70,6 +70,7 @@ pub trait Logic: Drop {
 }
 
 /// Refuses a record that the logic does not take.
+// kept beside `take_goal`: one function for both would be handed the question as a closure
 pub fn take_record<L: Logic>(logic: &L, record: Record) -> Result<(), LogicFault>
     ensures { MatchResult result (λ _. (L.meaning logic.now).TakesRecord «record») (λ f. (f ≡ RecordNotTaken) × ((L.meaning logic.now).TakesRecord «record» → ⊥)) }
 {

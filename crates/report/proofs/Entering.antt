@@ -20,7 +20,7 @@ use Rattle.engine.specs.declared.call.Call.TheVariants.{Enter}
 use Rattle.engine.specs.declared.call.Answer.TheVariants.{Entered}
 use Rattle.lines.specs.declared.form.Form.{Form}
 use Rattle.lines.specs.declared.form.Form.TheVariants.{Axiom, User}
-use Rattle.lines.specs.declared.form.AxiomForm.{AxiomForm}
+use Rattle.logics.specs.declared.form.Form.{Form as AxiomForm}
 use Rattle.lines.specs.declared.form.Line.{Line}
 use Rattle.lines.specs.Forms.{section}
 use Rattle.lines.specs.Lines.{lines_of}

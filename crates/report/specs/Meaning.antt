@@ -16,8 +16,8 @@ use Rattle.lines.specs.declared.form.Form.{Form}
 use Rattle.lines.specs.declared.form.Form.TheVariants.{Kind, Logic, Axiom, Goal as GoalLine}
 use Rattle.lines.specs.declared.form.KindForm.TheVariants.{Chain, Sets, House, Table}
 use Rattle.lines.specs.declared.form.LogicForm.TheVariants.{El, Links}
-use Rattle.lines.specs.declared.form.AxiomForm.{AxiomForm}
-use Rattle.lines.specs.declared.form.AxiomForm.TheVariants.{Lies, Both, Partner, Source, Link}
+use Rattle.logics.specs.declared.form.Form.{Form as AxiomForm}
+use Rattle.logics.specs.declared.form.Form.TheVariants.{Lies, Both, Partner, Source, Link}
 use Rattle.lines.specs.declared.form.Line.{Line}
 use Rattle.lines.specs.Lines.{lines_of}
 

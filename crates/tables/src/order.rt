@@ -13,6 +13,7 @@ use std::array;
 #[derive(Drop, PartialEq, Eq, Debug)]
 pub(crate) struct Order {
     pub(crate) labels: u32,
+    // kept: room for 32 labels with their number beside it, since the memory is fixed
     pub(crate) rows: [u32; 32],
     ghost sized: { TableSize labels },
     ghost inside: { Inside labels rows },
