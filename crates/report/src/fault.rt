@@ -31,6 +31,7 @@ pub struct ReportFault {
     pub cause: Cause,
 }
 
+// kept: the four are written by hand, as a derived `From` would come without its clause
 impl From<TextFault> for Cause {
     ghost from_gives = { λ f c. c ≡ Text f };
 
