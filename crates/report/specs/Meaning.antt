@@ -17,7 +17,7 @@ use Rattle.lines.specs.declared.form.Form.TheVariants.{Kind, Logic, Axiom, Goal 
 use Rattle.lines.specs.declared.form.KindForm.TheVariants.{Chain, Sets, House, Table}
 use Rattle.lines.specs.declared.form.LogicForm.TheVariants.{El, Links}
 use Rattle.logics.specs.declared.form.Form.{Form as AxiomForm}
-use Rattle.logics.specs.declared.form.Form.TheVariants.{Lies, Both, Partner, Source, Link}
+use Rattle.logics.specs.Forms.{number_of}
 use Rattle.lines.specs.declared.form.Line.{Line}
 use Rattle.lines.specs.Lines.{lines_of}
 
@@ -69,17 +69,9 @@ first_logic (x ∷ xs) = logic_by x.form (at x 0) (at x 1)
 abbrev pub logic_of : List Line → Entailment
 logic_of ls = first_logic (lines_of 2 ls)
 
--- the form of an axiom, by number
-abbrev pub form_number : AxiomForm → ℕ
-form_number Lies = 1
-form_number Both = 2
-form_number Partner = 3
-form_number Source = 4
-form_number Link = 5
-
 -- the record of an axiom line: its label comes first, and a third number that its form lacks is 0
 abbrev pub entry : AxiomForm → Line → Record
-entry f x = record { form = form_number f; a = at x 1; b = at x 2; c = at x 3 }
+entry f x = record { form = number_of f; a = at x 1; b = at x 2; c = at x 3 }
 
 -- the calls that a line stands for, with p places and w bytes of work area at hand
 abbrev pub calls_by : ℕ → ℕ → Form → Line → List Call
