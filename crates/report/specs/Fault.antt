@@ -5,7 +5,7 @@ use Rattle.labels.specs.Fault.{number as number_of_kind}
 use Rattle.logics.specs.Faults.{numbered as number_of_logic}
 use Rattle.engine.specs.Law.{number as number_of_sheet}
 use Rattle.engine.specs.declared.call.SheetFault.{SheetFault}
-use Rattle.engine.specs.declared.call.SheetFault.TheVariants.{Full, NoSuchAxiom, WithdrawnAlready, ShortArea, MoreSupports, RowsFull, NotPublished, Kind as OfKind, Logic as OfLogic}
+use Rattle.engine.specs.declared.call.SheetFault.TheVariants.{Kind as OfKind, Logic as OfLogic}
 use Rattle.lines.specs.Fault.{number as number_of_text}
 use Rattle.report.specs.declared.fault.Cause.{Cause}
 use Rattle.report.specs.declared.fault.Cause.TheVariants.{Text, Kind, Logic, Sheet}
@@ -15,15 +15,9 @@ use Rattle.report.specs.declared.fault.ReportFault.{ReportFault}
 
 -- a sheet's fault may be one of its kind or of its logic
 abbrev pub layer_of_sheet : SheetFault → Layer
-layer_of_sheet Full = SheetLayer
-layer_of_sheet NoSuchAxiom = SheetLayer
-layer_of_sheet WithdrawnAlready = SheetLayer
-layer_of_sheet ShortArea = SheetLayer
-layer_of_sheet MoreSupports = SheetLayer
-layer_of_sheet RowsFull = SheetLayer
-layer_of_sheet NotPublished = SheetLayer
 layer_of_sheet (OfKind f) = KindLayer
 layer_of_sheet (OfLogic f) = LogicLayer
+layer_of_sheet _ = SheetLayer
 
 -- the layer that the number belongs to
 abbrev pub layer : Cause → Layer

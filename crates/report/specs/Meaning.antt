@@ -13,11 +13,11 @@ use Rattle.engine.specs.Book.{Book, blank, after}
 use Rattle.engine.specs.declared.call.Call.{Call}
 use Rattle.engine.specs.declared.call.Call.TheVariants.{Enter, Publish}
 use Rattle.lines.specs.declared.form.Form.{Form}
-use Rattle.lines.specs.declared.form.Form.TheVariants.{Kind, Pair, Logic, Axiom, User, Goal as GoalLine}
+use Rattle.lines.specs.declared.form.Form.TheVariants.{Kind, Logic, Axiom, Goal as GoalLine}
 use Rattle.lines.specs.declared.form.KindForm.TheVariants.{Chain, Sets, House, Table}
 use Rattle.lines.specs.declared.form.LogicForm.TheVariants.{El, Links}
 use Rattle.logics.specs.declared.form.Form.{Form as AxiomForm}
-use Rattle.logics.specs.declared.form.Form.TheVariants.{Lies, Both, Partner, Source, Link}
+use Rattle.logics.specs.Forms.{number_of}
 use Rattle.lines.specs.declared.form.Line.{Line}
 use Rattle.lines.specs.Lines.{lines_of}
 
@@ -47,11 +47,7 @@ kind_by (Kind Chain) n ps = chain n
 kind_by (Kind Sets) n ps = sets n
 kind_by (Kind House) n ps = house
 kind_by (Kind Table) n ps = table n ps
-kind_by Pair n ps = no_kind
-kind_by (Logic l) n ps = no_kind
-kind_by (Axiom a) n ps = no_kind
-kind_by User n ps = no_kind
-kind_by GoalLine n ps = no_kind
+kind_by _ n ps = no_kind
 
 -- the K line is the first
 abbrev pub kind_of : List Line → LabelOrder
@@ -62,11 +58,7 @@ kind_of (x ∷ xs) = kind_by x.form (at x 0) (pairs xs)
 abbrev pub logic_by : Form → ℕ → ℕ → Entailment
 logic_by (Logic El) n r = el n r
 logic_by (Logic Links) n r = links n
-logic_by (Kind k) n r = no_logic
-logic_by Pair n r = no_logic
-logic_by (Axiom a) n r = no_logic
-logic_by User n r = no_logic
-logic_by GoalLine n r = no_logic
+logic_by _ n r = no_logic
 
 -- the first of the G lines, of which there is one
 abbrev pub first_logic : List Line → Entailment
@@ -77,26 +69,15 @@ first_logic (x ∷ xs) = logic_by x.form (at x 0) (at x 1)
 abbrev pub logic_of : List Line → Entailment
 logic_of ls = first_logic (lines_of 2 ls)
 
--- the form of an axiom, by number
-abbrev pub form_number : AxiomForm → ℕ
-form_number Lies = 1
-form_number Both = 2
-form_number Partner = 3
-form_number Source = 4
-form_number Link = 5
-
 -- the record of an axiom line: its label comes first, and a third number that its form lacks is 0
 abbrev pub entry : AxiomForm → Line → Record
-entry f x = record { form = form_number f; a = at x 1; b = at x 2; c = at x 3 }
+entry f x = record { form = number_of f; a = at x 1; b = at x 2; c = at x 3 }
 
 -- the calls that a line stands for, with p places and w bytes of work area at hand
 abbrev pub calls_by : ℕ → ℕ → Form → Line → List Call
 calls_by p w (Axiom f) x = Enter (entry f x) (at x 0) ∷ []
 calls_by p w GoalLine x = Publish (two x) p w ∷ []
-calls_by p w (Kind k) x = []
-calls_by p w Pair x = []
-calls_by p w (Logic l) x = []
-calls_by p w User x = []
+calls_by p w _ x = []
 
 -- the same by the line's form
 abbrev pub calls : ℕ → ℕ → Line → List Call

@@ -8,7 +8,7 @@ use Rattle.engine.specs.Sight.{AllSupports, IsBoundary, Sees}
 use Rattle.prints.specs.Print.{block}
 use Rattle.lines.specs.declared.fault.TextFault.TheVariants.{PrintTooLong, FileTooLong}
 use Rattle.lines.specs.declared.form.Form.{Form}
-use Rattle.lines.specs.declared.form.Form.TheVariants.{Kind, Pair, Logic, Axiom, User, Goal as GoalLine}
+use Rattle.lines.specs.declared.form.Form.TheVariants.{Goal as GoalLine}
 use Rattle.lines.specs.declared.form.Line.{Line}
 use Rattle.report.specs.declared.fault.Cause.TheVariants.{Text}
 use Rattle.report.specs.declared.fault.ReportFault.{ReportFault}
@@ -35,11 +35,7 @@ module _ (p w : ℕ) where
   -- what a line prints, by the lines up to it: only a goal prints
   abbrev pub LinePrints : Form → List Line → Line → List ℕ → Type 0
   LinePrints GoalLine ls x t = GoalPrints (kind_of ls) (logic_of ls) (book_of p w ls) (users_of ls) (two x) t
-  LinePrints (Kind k) ls x t = t ≡ []
-  LinePrints Pair ls x t = t ≡ []
-  LinePrints (Logic l) ls x t = t ≡ []
-  LinePrints (Axiom a) ls x t = t ≡ []
-  LinePrints User ls x t = t ≡ []
+  LinePrints _ ls x t = t ≡ []
 
   -- what lines print behind others
   abbrev pub Prints : List Line → List Line → List ℕ → Type 0

@@ -10,7 +10,7 @@ pub fn answer_file(file: &[u8], places: &mut [u64], area: &mut [u8], output: &mu
     ensures within { result ≤ length output.old }
     ensures told { Answers (length places.old) (length area.old) (length output.old) file.now (take result output.new) }
 {
-    // a `match`, since a proof would not know what a closure had written into the output
+    // kept: a match, as a closure for the refusal would have to write the output
     match report(file, places, area, output) {
         Ok(length) => length,
         Err(fault) => fault_line(fault, output).unwrap_or(0),

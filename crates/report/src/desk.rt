@@ -33,7 +33,7 @@ fn record_of(form: AxiomForm, line: &Line) -> Option<Record>
 {
     let [_, a, b, c] = line.numbers;
     Some(Record {
-        form: form as u16,
+        form: u16::from(form),
         a: u16::try_from(a).ok()?,
         b: u16::try_from(b).ok()?,
         c: u16::try_from(c).ok()?,

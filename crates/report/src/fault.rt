@@ -31,7 +31,7 @@ pub struct ReportFault {
     pub cause: Cause,
 }
 
-// The four `From` are written by hand: a derived one does not say which cause it makes.
+// kept: the four are written by hand, as a derived `From` would come without its clause
 impl From<TextFault> for Cause {
     ghost from_gives = { λ f c. c ≡ Text f };
 
