@@ -79,6 +79,7 @@ impl El {
         infer(area, p, q, self.at(third))
     }
 
+    // That the area is ready, and x a row, is asked of this and the next two: what is lent is no part of the logic.
     // Tries an axiom of form 4 at row x: each partner that one of form 3 gives x may lie in its concept.
     fn source(&self, axioms: &Axioms, source: Record, x: usize, area: &mut [u8]) -> bool
         requires ready { Ready (el self.now.concepts self.now.roles) axioms.now.all (length area.old) }

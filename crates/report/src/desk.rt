@@ -40,6 +40,7 @@ fn record_of(form: AxiomForm, line: &Line) -> Option<Record>
     })
 }
 
+// Each method says what it does to what the desk keeps of the lines (`Keeping`): the lines are no part of the desk.
 impl Desk {
     // A sheet with nothing in it, and no users.
     pub(crate) fn open(kind: AnyKind, logic: AnyLogic) -> Desk

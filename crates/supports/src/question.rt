@@ -14,6 +14,7 @@ pub(crate) struct Question<'a, L> {
     pub(crate) goal: (u32, u32),
 }
 
+// Each method says that it finds the work area ready and leaves it as it was: the area is lent, so no type can say so.
 impl<'a, L: Logic> Question<'a, L> {
     ghost use Rattle.supports.specs.Asked.{asked, Yields, Support, Ready};
     ghost use Rattle.supports.specs.Search.{DroppedOne};
