@@ -9,7 +9,7 @@ use Rattle.base.specs.Words.{Iff}
 use Rattle.labels.specs.Order.{LabelOrder, Label, Under, Least, Greatest, Same, Means}
 use Rattle.labels.proofs.Orders.{same_sym, same_least, same_greatest, same_lawful}
 use Rattle.tables.specs.Table.{TableSize, table, Lacking}
-use Rattle.tables.specs.Rows.{matrix, Inside, PartialOrder, Flipped, Keeps, LabelOf, NoJoin, JoinTable, MeetTable, JoinsAll, PrimeSet, SplitBits, SplitSet, Finished, Within, ZerosBeyond, entry, under}
+use Rattle.tables.specs.Rows.{matrix, Inside, PartialOrder, Flipped, Keeps, LabelOf, NoJoin, JoinTable, MeetTable, PrimeSet, SplitBits, SplitSet, Finished, Within, entry, under}
 use Rattle.tables.specs.Laws.{table_lawful}
 use Rattle.tables.proofs.Flips.{least_greatest, greatest_least, row_top, top_row}
 
@@ -60,12 +60,14 @@ module _ (n : ℕ) (rows : List ℕ) (meets joins : List (List ℕ)) (top primes
       let same = keeps_same n rows pairs inside keeps in
       (lacks_none pairs same, record { same = same; lawful = same_lawful (matrix n rows) (table n pairs) same (table_lawful n rows meets joins top primes done size) })
 
--- joins, and meets as the joins of the order seen from above
+-- with the joins of the order and those of the order seen from above
 module _ (n : ℕ) (rows down : List ℕ) (inside : Inside n rows) (ordered : PartialOrder (matrix n rows)) (flip : Flipped rows down)
     (meets joins : List (List ℕ)) (meet : JoinTable (matrix n down) meets) (join : JoinTable (matrix n rows) joins) where
+  -- those of the order seen from above are the meets
   pub flipped_meets : MeetTable (matrix n rows) meets
   flipped_meets a b la lb = least_greatest n rows down inside ordered flip a b _ (meet a b la lb)
 
+  -- the bits of the order seen from above say which labels split every join
   pub split_primes : (primes : ℕ)
       → ((u : ℕ) → Iff (Has primes u) ((u < n) × ((a b : ℕ) → a < n → b < n → SplitBits down u a b (entry joins a b))))
       → PrimeSet (matrix n rows) joins primes
@@ -82,6 +84,7 @@ module _ (n : ℕ) (rows down : List ℕ) (inside : Inside n rows) (ordered : Pa
     ),
   )
 
+  -- all that a table has at hand, where a label whose row is full is found if there is one
   pub finished : (top primes : ℕ) → 0 < n
       → ((t : ℕ) → t < n → slice_index down t ≡ 2 ^ n - 1 → (top < n) × (slice_index down top ≡ 2 ^ n - 1))
       → ((u : ℕ) → Iff (Has primes u) ((u < n) × ((a b : ℕ) → a < n → b < n → SplitBits down u a b (entry joins a b))))

@@ -1,4 +1,4 @@
--- Facts about an order in rows of bits have one proof at most, so a ghost field may hold them, and one that is known to be there serves anywhere.
+-- Facts about an order in rows of bits have one proof at most, so a ghost field may hold them, and what is merely known of it serves anywhere.
 use Rattle.std.specs.Prelude.{◌≡◌, ℕ, ◌<◌, List}
 use Rattle.std.proofs.Math.Logic.{∥∥₁_elim}
 use mathlib.Core.HLevel.{Π_prop, ×_prop}
@@ -27,7 +27,7 @@ module _ (n : ℕ) (rows : List ℕ) where
         transitive = transitive p.transitive q.transitive i;
       }
 
-  -- an order of which it is known that there is one
+  -- rows that are merely known to hold an order hold one
   pub ordered : ∥ PartialOrder (matrix n rows) ∥₁ → PartialOrder (matrix n rows)
   ordered t = ∥∥₁_elim t order_one (λ x. x)
 
@@ -67,6 +67,6 @@ module _ (n : ℕ) (rows : List ℕ) where
         prime = prime p.prime q.prime i;
       }
 
-  -- a finished record of which it is known that there is one
+  -- and what is merely known to be finished is finished
   pub complete : (meets joins : List (List ℕ)) (top primes : ℕ) → ∥ Finished (matrix n rows) meets joins top primes ∥₁ → Finished (matrix n rows) meets joins top primes
   complete meets joins top primes t = ∥∥₁_elim t (finished_one meets joins top primes) (λ x. x)

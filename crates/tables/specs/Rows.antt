@@ -70,7 +70,7 @@ SplitSet n down joins primes = (u : ℕ) → Iff (Has primes u) ((u < n) × ((a 
 abbrev pub Within : ℕ → List (List ℕ) → Type 0
 Within n t = (a b : ℕ) → a < n → b < n → entry t a b < n
 
--- each entry is 0 but those of two of n numbers
+-- each entry is 0 but those in the first n places of the first n rows
 abbrev pub ZerosBeyond : ℕ → List (List ℕ) → Type 0
 ZerosBeyond n t = (a b : ℕ) → ((a < n) × (b < n) → ⊥) → entry t a b ≡ 0
 
@@ -86,7 +86,7 @@ module _ (k : LabelOrder) where
   abbrev pub MeetTable : List (List ℕ) → Type 0
   MeetTable t = (a b : ℕ) → Label k a → Label k b → Greatest k a b (entry t a b)
 
-  -- the same, and 0 for numbers that are no labels
+  -- the entries are the joins of the labels, and 0 for numbers that are no labels
   abbrev pub JoinsAll : List (List ℕ) → Type 0
   JoinsAll t = JoinTable t × ZerosBeyond k.size t
 
