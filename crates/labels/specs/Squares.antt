@@ -3,6 +3,7 @@ use Rattle.std.specs.Prelude.{◌≡◌, ℕ, ◌+◌, Bool, true, false, ◌&&�
 use Rattle.std.specs.List.{range_with_len}
 use Rattle.std.proofs.Common.{ap₂, eqb→eq}
 
+-- a test of two parts passes where both pass
 both : (a b : Bool) → T (a && b) → T a × T b
 both true b t = (tt, t)
 both false b t = absurd t
@@ -25,10 +26,11 @@ module _ {A : Type 0} where
 abbrev pub square : ℕ → (ℕ → ℕ → ℕ → Bool) → List (List ℕ) → Bool
 square n f rows = nat_eq (length rows) n && every (λ a row. nat_eq (length row) n && every (f a) 0 row) 0 rows
 
--- a square that is tested for a rule is the whole table of that rule: row a, place b
+-- the whole table of a rule: row a, place b
 abbrev pub table_by : ℕ → (ℕ → ℕ → ℕ) → List (List ℕ)
 table_by n f = map (λ a. map (f a) (range_with_len 0 n)) (range_with_len 0 n)
 
+-- a square that passes the test of a rule is the table of that rule
 pub square_is : (n : ℕ) (f : ℕ → ℕ → ℕ) (rows : List (List ℕ)) → T (square n (λ a b x. nat_eq x (f a b)) rows) → rows ≡ table_by n f
 square_is n f rows t =
     let (tall, good) = both (nat_eq (length rows) n) _ t in
