@@ -1,5 +1,5 @@
 -- The house's labels keep the laws of a label kind: the two tables, entry by entry, and which labels are join prime.
-use Rattle.std.specs.Prelude.{◌≡◌, ℕ, ◌+◌, ◌*◌, ◌%◌, ◌<◌, ◌≤◌, min, max, map, ◌⊎◌, List, [], ◌∷◌, slice_index, slice_index_or, refl}
+use Rattle.std.specs.Prelude.{◌≡◌, ℕ, ◌+◌, ◌*◌, ◌%◌, ◌<◌, ◌≤◌, min, max, map, Bool, T, ◌⊎◌, List, [], ◌∷◌, nat_eq, slice_index, slice_index_or, refl}
 use Rattle.std.specs.List.{range_with_len}
 use Rattle.std.proofs.Common.{inl, inr, arith, zero-add}
 use Rattle.std.proofs.Math.Decide.{dec_le, dec_lt, ℕ_discrete}
@@ -7,6 +7,7 @@ use Rattle.std.proofs.lemmas.List.{get_or_past}
 use Rattle.std.proofs.lemmas.List.FromFn.{get_or-map-range_with_len}
 use Rattle.base.specs.Words.{In}
 use Rattle.labels.specs.Order.{Lawful, JoinPrime, Greatest, Least, Under, Meets, Joins}
+use Rattle.labels.specs.Squares.{square, table_by, square_is}
 use Rattle.labels.specs.House.{house, sales, service, export}
 
 -- the label whose parts are found from those of a and b, one by one
@@ -19,9 +20,9 @@ min_greatest a b m la lb e = omega arith
 max_least : (a b m : ℕ) → a < 12 → b < 12 → m ≡ by_parts max a b → Least house a b m
 max_least a b m la lb e = omega arith
 
--- the whole table of a rule: row a, place b
+-- the whole table of a rule
 abbrev pub table_of : (ℕ → ℕ → ℕ) → List (List ℕ)
-table_of f = map (λ a. map (by_parts f a) (range_with_len 0 12)) (range_with_len 0 12)
+table_of f = table_by 12 (by_parts f)
 
 module _ (f : ℕ → ℕ → ℕ) (a b : ℕ) where
   row_of : a < 12 → slice_index_or (table_of f) a [] ≡ map (by_parts f a) (range_with_len 0 12)
@@ -38,11 +39,22 @@ module _ (f : ℕ → ℕ → ℕ) (a b : ℕ) where
       ]
 
 -- a table that is computed to be that of its rule answers for each two numbers
-pub meet_entry : (rows : List (List ℕ)) → rows ≡ table_of min → (a b : ℕ) → Meets house a b (slice_index (slice_index_or rows a []) b)
-meet_entry rows e a b = rw e (λ la lb. min_greatest a b _ la lb (entry_of min a b la lb), beyond_table min a b)
+pub meet_answer : (rows : List (List ℕ)) → rows ≡ table_of min → (a b : ℕ) → Meets house a b (slice_index (slice_index_or rows a []) b)
+meet_answer rows e a b = rw e (λ la lb. min_greatest a b _ la lb (entry_of min a b la lb), beyond_table min a b)
 
-pub join_entry : (rows : List (List ℕ)) → rows ≡ table_of max → (a b : ℕ) → Joins house a b (slice_index (slice_index_or rows a []) b)
-join_entry rows e a b = rw e (λ la lb. max_least a b _ la lb (entry_of max a b la lb), beyond_table max a b)
+pub join_answer : (rows : List (List ℕ)) → rows ≡ table_of max → (a b : ℕ) → Joins house a b (slice_index (slice_index_or rows a []) b)
+join_answer rows e a b = rw e (λ la lb. max_least a b _ la lb (entry_of max a b la lb), beyond_table max a b)
+
+-- the test of a whole table
+abbrev pub is_table : (ℕ → ℕ → ℕ) → List (List ℕ) → Bool
+is_table f = square 12 (λ a b x. nat_eq x (by_parts f a b))
+
+-- and a table that passes it answers for each two labels
+pub meet_entry : (rows : List (List ℕ)) → T (is_table min rows) → (a b : ℕ) → a < 12 → b < 12 → Greatest house a b (slice_index (slice_index_or rows a []) b)
+meet_entry rows t a b = (meet_answer rows (square_is 12 (by_parts min) rows t) a b).0
+
+pub join_entry : (rows : List (List ℕ)) → T (is_table max rows) → (a b : ℕ) → a < 12 → b < 12 → Least house a b (slice_index (slice_index_or rows a []) b)
+join_entry rows t a b = (join_answer rows (square_is 12 (by_parts max) rows t) a b).0
 
 pub house_lawful : Lawful house
 house_lawful = record {
@@ -119,3 +131,26 @@ prime_part u prime =
             | inr v ↦ inr (omega arith)
           ]
     ]
+
+-- the labels of one part, or none
+pub one_part : (u : ℕ) → (u < 12) × ((u % 4 ≡ 0) ⊎ (u ≤ 2)) → In u (0 ∷ 1 ∷ 2 ∷ 4 ∷ 8 ∷ [])
+one_part u (l, one) =
+    elim (ℕ_discrete u 0) [
+      | yes e ↦ inl e
+      | no n0 ↦ inr (elim (ℕ_discrete u 1) [
+        | yes e ↦ inl e
+        | no n1 ↦ inr (elim (ℕ_discrete u 2) [
+          | yes e ↦ inl e
+          | no n2 ↦ inr (elim (ℕ_discrete u 4)
+              [ yes e ↦ inl e | no n4 ↦ inr (inl (elim one [ inl four ↦ omega arith | inr few ↦ absurd (omega arith) ])) ])
+        ])
+      ])
+    ]
+
+pub part_one : (u : ℕ) → In u (0 ∷ 1 ∷ 2 ∷ 4 ∷ 8 ∷ []) → (u < 12) × ((u % 4 ≡ 0) ⊎ (u ≤ 2))
+part_one u (inl e) = (omega arith, inr (omega arith))
+part_one u (inr (inl e)) = (omega arith, inr (omega arith))
+part_one u (inr (inr (inl e))) = (omega arith, inr (omega arith))
+part_one u (inr (inr (inr (inl e)))) = (omega arith, inl (omega arith))
+part_one u (inr (inr (inr (inr (inl e))))) = (omega arith, inl (omega arith))
+part_one u (inr (inr (inr (inr (inr i))))) = absurd i

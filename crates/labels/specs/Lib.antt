@@ -4,5 +4,6 @@ pub mod Sets
 pub mod House
 pub mod Fault
 pub mod Chains
+pub mod Squares
 pub mod Houses
 pub mod Inclusion

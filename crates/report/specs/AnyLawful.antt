@@ -12,4 +12,4 @@ pub any_lawful : (k : AnyKind) → Lawful (any_kind k)
 any_lawful (Chain k) = chain_lawful k.labels k.ok
 any_lawful (Sets k) = sets_lawful k.regions k.ok
 any_lawful (House k) = house_lawful
-any_lawful (Table t) = table_lawful _ _ t.order.ordered _ _ _ _ t.finished t.order.sized
+any_lawful (Table t) = table_lawful _ _ _ _ _ _ t.finished t.order.sized

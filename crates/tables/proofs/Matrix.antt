@@ -1,11 +1,40 @@
--- The orders that rows of bits hold.
-use Rattle.std.proofs.Common.{◌≡◌, ◌≢◌, ℕ, ◌<◌, List, [], refl, sym, subst, ◌∙◌, inl, inr, arith}
+-- Rows of bits: what a write to a row changes, and the orders that rows hold.
+use Rattle.std.specs.Prelude.{replicate, slice_index, slice_set}
+use Rattle.std.proofs.Common.{◌≡◌, ◌≢◌, ℕ, zero, suc, ◌<◌, List, [], length, refl, sym, ap, subst, ◌∙◌, inl, inr, arith, get_or-set_same, get_or-set_other}
 use Rattle.std.proofs.Math.Decide.{ℕ_discrete}
+use Rattle.base.specs.Bits.{Has}
 use Rattle.base.specs.Words.{Iff}
+use Rattle.base.proofs.Sets.{has_zero}
 use Rattle.labels.specs.Order.{Under}
 use Rattle.tables.specs.Rows.{Marked, matrix, Inside, PartialOrder, Keeps, Linked, under}
 use Rattle.tables.specs.Table.{Reach, here, step, table, more, Looped}
 use Rattle.tables.proofs.Chains.{reach_none, reach_more, by_last, last_by, in_last}
+
+-- rows of zeros
+zeros_at : (n i : ℕ) → ◌≡◌ {A = ℕ} (slice_index (replicate n 0) i) 0
+zeros_at zero i = refl
+zeros_at (suc n) zero = refl
+zeros_at (suc n) (suc i) = zeros_at n i
+
+pub zeros_unmarked : (n a b : ℕ) → Marked (replicate n 0) a b → ⊥
+zeros_unmarked n a b h = has_zero b (rw (zeros_at n a) at h)
+
+-- a row that is written, and the others
+pub marked_here : (rows : List ℕ) (i v b : ℕ) → i < length rows → Marked (slice_set rows i v) i b ≡ Has v b
+marked_here rows i v b h = ap (λ s. Has s b) (get_or-set_same rows i v 0 h)
+
+pub marked_other : (rows : List ℕ) (i v a b : ℕ) → (a ≢ i) → Marked (slice_set rows i v) a b ≡ Marked rows a b
+marked_other rows i v a b h = ap (λ s. Has s b) (get_or-set_other rows i a v 0 h)
+
+-- a rule of all rows, once row i has been written by it
+pub row_more : (P : ℕ → ℕ → Type 0) (rows : List ℕ) (i v : ℕ) → i < length rows
+    → ((a b : ℕ) → (a ≢ i) → Iff (Marked rows a b) (P a b)) → ((b : ℕ) → Iff (Has v b) (P i b))
+    → (a b : ℕ) → Iff (Marked (slice_set rows i v) a b) (P a b)
+row_more P rows i v h others written a b =
+    elim (ℕ_discrete a i) [
+      | yes e ↦ subst (λ (x : ℕ). Iff (Marked (slice_set rows i v) x b) (P x b)) (sym e) (rw (marked_here rows i v b h) (written b))
+      | no ne ↦ rw (marked_other rows i v a b ne) (others a b ne)
+    ]
 
 -- each label at or below itself alone
 module _ (n : ℕ) (rows : List ℕ) (apart : (a b : ℕ) → Iff (Marked rows a b) ((a < n) × (b ≡ a))) where

@@ -1,5 +1,6 @@
--- Facts about an order in rows of bits have one proof at most, so a ghost field may hold them.
+-- Facts about an order in rows of bits have one proof at most, so a ghost field may hold them, and what is merely known of it serves anywhere.
 use Rattle.std.specs.Prelude.{◌≡◌, ℕ, ◌<◌, List}
+use Rattle.std.proofs.Math.Logic.{∥∥₁_elim}
 use mathlib.Core.HLevel.{Π_prop, ×_prop}
 use denote.Struct.Props.{props}
 use Rattle.base.specs.Bits.{Has}
@@ -25,6 +26,10 @@ module _ (n : ℕ) (rows : List ℕ) where
         antisymmetric = antisymmetric p.antisymmetric q.antisymmetric i;
         transitive = transitive p.transitive q.transitive i;
       }
+
+  -- rows that are merely known to hold an order hold one
+  pub ordered : ∥ PartialOrder (matrix n rows) ∥₁ → PartialOrder (matrix n rows)
+  ordered t = ∥∥₁_elim t order_one (λ x. x)
 
   least_one : (a b j : ℕ) → IsProp (Least (matrix n rows) a b j)
   least_one a b j p q =
@@ -55,8 +60,13 @@ module _ (n : ℕ) (rows : List ℕ) where
       let prime : IsProp (PrimeSet (matrix n rows) joins primes) =
       Π_prop (λ u. ×_prop (Π_prop (λ _. ×_prop (small u) (split u))) (Π_prop (λ _. has u))) in
       λ i. record {
+        ordered = order_one p.ordered q.ordered i;
         meet = meet p.meet q.meet i;
         join = join p.join q.join i;
         highest = highest p.highest q.highest i;
         prime = prime p.prime q.prime i;
       }
+
+  -- and what is merely known to be finished is finished
+  pub complete : (meets joins : List (List ℕ)) (top primes : ℕ) → ∥ Finished (matrix n rows) meets joins top primes ∥₁ → Finished (matrix n rows) meets joins top primes
+  complete meets joins top primes t = ∥∥₁_elim t (finished_one meets joins top primes) (λ x. x)

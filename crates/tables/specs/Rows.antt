@@ -2,7 +2,7 @@
 use Rattle.std.specs.Prelude.{◌≡◌, ℕ, ◌<◌, ◌⊎◌, List, [], Option, MatchOption, Result, MatchResult, slice_index, slice_index_or}
 use Rattle.base.specs.Bits.{Has}
 use Rattle.base.specs.Words.{Iff}
-use Rattle.labels.specs.Order.{LabelOrder, Label, Under, Least, Top, Meets, Joins}
+use Rattle.labels.specs.Order.{LabelOrder, Label, Under, Greatest, Least, Top, Joins}
 use Rattle.labels.specs.declared.fault.KindFault.{KindFault}
 use Rattle.labels.specs.declared.fault.KindFault.TheVariants.{NoMeetOrJoin}
 use Rattle.tables.specs.Table.{table, more, PairTaken, PairRefused}
@@ -70,17 +70,25 @@ SplitSet n down joins primes = (u : ℕ) → Iff (Has primes u) ((u < n) × ((a 
 abbrev pub Within : ℕ → List (List ℕ) → Type 0
 Within n t = (a b : ℕ) → a < n → b < n → entry t a b < n
 
+-- each entry is 0 but those in the first n places of the first n rows
+abbrev pub ZerosBeyond : ℕ → List (List ℕ) → Type 0
+ZerosBeyond n t = (a b : ℕ) → ((a < n) × (b < n) → ⊥) → entry t a b ≡ 0
+
 module _ (k : LabelOrder) where
   -- the numbers of a row are the joins of a with each label, and 0 for numbers that are no labels
   pub record JoinRow (a : ℕ) (row : List ℕ) : Type 0 where
     pub at : (b : ℕ) → Joins k a b (slice_index row b)
 
-  -- the entries are the joins, or the meets, of the labels, and 0 for numbers that are no labels
+  -- the entries are the joins, or the meets, of the labels
   abbrev pub JoinTable : List (List ℕ) → Type 0
-  JoinTable t = (a b : ℕ) → Joins k a b (entry t a b)
+  JoinTable t = (a b : ℕ) → Label k a → Label k b → Least k a b (entry t a b)
 
   abbrev pub MeetTable : List (List ℕ) → Type 0
-  MeetTable t = (a b : ℕ) → Meets k a b (entry t a b)
+  MeetTable t = (a b : ℕ) → Label k a → Label k b → Greatest k a b (entry t a b)
+
+  -- the entries are the joins of the labels, and 0 for numbers that are no labels
+  abbrev pub JoinsAll : List (List ℕ) → Type 0
+  JoinsAll t = JoinTable t × ZerosBeyond k.size t
 
   -- some two labels have no join
   abbrev pub NoJoin : Type 0
@@ -101,6 +109,7 @@ module _ (k : LabelOrder) where
 
   -- what a finished table has at hand
   pub record Finished (meets joins : List (List ℕ)) (top primes : ℕ) : Type 0 where
+    pub ordered : PartialOrder k
     pub meet : MeetTable meets
     pub join : JoinTable joins
     pub highest : Label k top × Top k top

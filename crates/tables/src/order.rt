@@ -3,7 +3,7 @@ ghost use Rattle.std.specs.Prelude.{◌≡◌, ◌≢◌, ◌-◌, ◌^◌, ◌<
 ghost use Rattle.base.specs.Words.{Iff};
 ghost use Rattle.labels.specs.Order.{Under, Joins};
 ghost use Rattle.tables.specs.Table.{TableSize};
-ghost use Rattle.tables.specs.Rows.{Marked, matrix, Inside, PartialOrder, Keeps, Linked, IsColumn, Flipped, LabelOf, JoinRow, JoinTable, Joined};
+ghost use Rattle.tables.specs.Rows.{Marked, matrix, Inside, PartialOrder, Keeps, Linked, IsColumn, Flipped, LabelOf, JoinRow, JoinsAll, Joined};
 ghost use Rattle.tables.specs.OneProof.{order_one};
 
 use base::contains;
@@ -130,7 +130,7 @@ impl Order {
 
     // The joins of each two labels.
     pub fn joins(&self) -> Result<[[u8; 32]; 32], KindFault>
-        ensures { let order = matrix self.now.labels self.now.rows in Joined order (JoinTable order) result }
+        ensures { let order = matrix self.now.labels self.now.rows in Joined order (JoinsAll order) result }
     {
         let mut table = [[0; 32]; 32];
         for (a, row) in table.iter_mut().enumerate() {

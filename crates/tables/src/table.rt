@@ -2,7 +2,7 @@ ghost use Rattle.std.specs.Prelude.{◌≡◌, ℕ, List, MatchResult};
 ghost use Rattle.labels.specs.Order.{Means};
 ghost use Rattle.labels.specs.declared.fault.KindFault.TheVariants.{NoMeetOrJoin};
 ghost use Rattle.tables.specs.Table.{table, Lacking, TableTaken, TableRefused};
-ghost use Rattle.tables.specs.Rows.{matrix, Finished, Keeps};
+ghost use Rattle.tables.specs.Rows.{matrix, Finished, Keeps, ZerosBeyond};
 ghost use Rattle.tables.specs.OneProof.{finished_one};
 ghost use Rattle.tables.specs.Laws.{table_lawful};
 
@@ -25,6 +25,7 @@ pub struct Table {
     // the labels that are admitted as users
     primes: u32,
     ghost finished: { Finished (matrix order.labels order.rows) meets joins top primes } by { finished_one order.labels order.rows meets joins top primes },
+    ghost beyond: { ZerosBeyond order.labels meets × ZerosBeyond order.labels joins },
 }
 
 impl TableBuilder {
@@ -64,7 +65,7 @@ impl Table {
 impl LabelKind for Table {
     ghost meaning = { λ t. matrix t.order.labels t.order.rows };
 
-    ghost lawful = { λ t. table_lawful _ _ t.order.ordered _ _ _ _ t.finished t.order.sized };
+    ghost lawful = { λ t. table_lawful _ _ _ _ _ _ t.finished t.order.sized };
 
     fn size(&self) -> u64 {
         u64::from(self.order.labels)

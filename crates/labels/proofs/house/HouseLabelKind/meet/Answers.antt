@@ -1,6 +1,6 @@
 use Rattle.std.proofs.Common.{refl}
-use Rattle.labels.specs.Houses.{meet_entry}
+use Rattle.labels.specs.Houses.{meet_answer}
 use Rattle.labels.proofs.house.HouseLabelKind.meet.Goals as goal
 
 pub returns : goal.returns
-returns c = rw c.entry.ensures (meet_entry _ refl _ _)
+returns c = rw c.entry.ensures (meet_answer _ refl _ _)
