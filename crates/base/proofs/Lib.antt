@@ -1,4 +1,5 @@
 pub mod Sets
+pub mod Places
 pub mod Tests
 pub mod Ones
 pub mod Checks

@@ -20,10 +20,6 @@ pub is_true : (b : Bool) → T b → b ≡ true
 is_true true t = refl
 is_true false t = absurd t
 
--- one that fails does not pass
-pub failed : {b : Bool} → b ≡ false → T b → ⊥
-failed e t = rw e at t
-
 pub both_fail : {P Q : Type 0} → (P → ⊥) → (Q → ⊥) → Iff P Q
 both_fail f g = (λ p. absurd (f p), λ q. absurd (g q))
 

@@ -1,8 +1,9 @@
 // Sets of the numbers 0 to 63, each stored as one number.
 #![tactic(auto)]
 
-ghost use Rattle.std.specs.Prelude.{◌≡◌, ◌-◌, ◌^◌, ◌<◌, ◌≤◌, T, bit_or};
-ghost use Rattle.base.specs.Bits.{Has};
+ghost use Rattle.std.specs.Prelude.{◌≡◌, ◌-◌, ◌^◌, ◌<◌, ◌≤◌, T, length, bit_or};
+ghost use Rattle.std.specs.Fn.{FnReturnsAt};
+ghost use Rattle.base.specs.Bits.{Has, Answered};
 ghost use Rattle.base.specs.Words.{Iff};
 
 // Is `place` in the set?
@@ -30,4 +31,20 @@ pub fn without_place(set: u64, place: u32) -> u64
     } else {
         set
     }
+}
+
+// The set of the places at which the test holds, of up to 64 things.
+pub fn places_where<T, F: Fn(&T) -> bool>(things: &[T], test: F) -> u64
+    requires few { length things.now ≤ 64 }
+    requires callable { F.IsAlwaysCallable test }
+    ensures within { result < 2 ^ length things.now }
+    ensures answered { Answered (FnReturnsAt F.Fn test) things.now result }
+{
+    let mut places = 0;
+    for (place, thing) in things.iter().enumerate() {
+        if test(thing) {
+            places |= 1 << place;
+        }
+    }
+    places
 }

@@ -8,6 +8,7 @@ ghost use Rattle.engine.specs.declared.call.SheetFault.TheVariants.{NoSuchAxiom,
 use crate::call::SheetFault;
 use crate::page::Page;
 use arrayvec::ArrayVec;
+use base::places_where;
 use logics::Record;
 use std::marker::Model;
 
@@ -95,13 +96,7 @@ impl AxiomTable {
     pub(crate) fn in_force(&self) -> u64
         ensures { (i : ℕ) → Iff (Has result i) (Standing self.now i) }
     {
-        let mut set = 0;
-        for (i, page) in self.pages().iter().enumerate() {
-            if page.stands {
-                set |= 1 << i;
-            }
-        }
-        set
+        places_where(self.pages(), |page| page.stands)
     }
 
     // The records of the axioms, in order.

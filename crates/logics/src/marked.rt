@@ -5,6 +5,7 @@ ghost use Rattle.logics.specs.Entailment.{Markable, marked};
 ghost use Rattle.logics.specs.Forms.{number_of};
 
 use crate::{Form, Record};
+use base::places_where;
 use std::marker::Model;
 
 // The marked ones of up to 64 records, in their order: bit i of `marks` is set for the record at place i.
@@ -54,12 +55,7 @@ impl<'a> Marked<'a> {
         ensures { result ≡ filter (λ r. r.form == number_of form) self.now }
     {
         let number = u16::from(form);
-        let mut places = 0;
-        for (place, record) in self.records.iter().enumerate() {
-            if record.form == number {
-                places |= 1 << place;
-            }
-        }
+        let places = places_where(self.records, |record| record.form == number);
         Marked {
             records: self.records,
             marks: self.marks & places,

@@ -6,7 +6,7 @@ ghost use Rattle.tables.specs.Table.{TableSize};
 ghost use Rattle.tables.specs.Rows.{Marked, matrix, Inside, PartialOrder, Keeps, Linked, IsColumn, Flipped, LabelOf, JoinRow, JoinsAll, Joined};
 ghost use Rattle.tables.specs.OneProof.{order_one};
 
-use base::contains;
+use base::{contains, places_where};
 use labels::fault::KindFault;
 use std::array;
 
@@ -73,13 +73,7 @@ impl Order {
     fn column(&self, b: u32) -> u32
         ensures { IsColumn self.now.rows b result }
     {
-        let mut column = 0;
-        for (a, row) in self.rows.iter().enumerate() {
-            if contains(u64::from(*row), b) {
-                column |= 1 << a;
-            }
-        }
-        column
+        places_where(&self.rows, |row| contains(u64::from(*row), b)) as u32
     }
 
     // The same order, seen from above: bit a of row b says that a is at or below b.

@@ -1,24 +1,12 @@
-use Rattle.std.proofs.Common.{ℕ, ◌+◌, ◌<◌, sym, subst, arith}
-use Rattle.std.proofs.lemmas.Nat.{one_shl}
-use Rattle.base.proofs.Sets.{Gathered, gather_more, gather_skip}
-use Rattle.tables.specs.Rows.{Marked}
+use Rattle.std.proofs.Common.{rules, ℕ, arith}
+use Rattle.base.specs.Bits.{Has}
+use Rattle.base.proofs.Places.{places_Gathered}
 use Rattle.tables.proofs.order.Order.column.Goals as goal
-use Rattle.tables.proofs.order.Order.column.Goals.{then-contains, else-contains}
-
-pub loop-a-preserved : goal.loop-a-preserved
-loop-a-preserved c =
-    let P : ℕ → Type 0 = λ a. Marked c.args.self.now.rows a c.args.b in
-    let Q : ℕ → Type 0 = λ s. Gathered P s (c.loop-a.a + 1) in
-    let within : c.loop-a.a < 32 = omega arith in
-    elim c.if-contains.branch [
-      | then-contains w ↦
-          subst Q (sym w.column-is) (gather_more P _ _ c.loop-a.invariant _ (one_shl c.loop-a.a 32 within) (rw c.from.ensures at (w.if-contains.ensures.0 tt)))
-      | else-contains w ↦ subst Q (sym w.column-is) (gather_skip P _ _ c.loop-a.invariant (rw c.from.ensures at w.if-contains.ensures.1))
-    ]
 
 pub returns : goal.returns
-returns c = record {
-  marks = λ a.
-      let column = c.loop-a.invariant a in
-      (λ h. (column.0 h).1, λ m. column.1 (omega (arith, c.args.self.now.inside a c.args.b m), m));
-}
+returns c =
+    let rows = c.args.self.now.rows in
+    let b = c.args.b in
+    let set = c.places_where in
+    let found = places_Gathered (λ (row : ℕ). Has row b) rows 0 set.result set.ensures.within set.ensures.answered (λ p r k. search rules) in
+    record { marks = λ a. (λ h. ((found a).0 h).1, λ m. (found a).1 (omega (arith, c.args.self.now.inside a b m), m)) }
