@@ -122,3 +122,6 @@ first_differs w s t small = (into, back)
         let no_later : b.place < p → ⊥ = λ lt. zeros_lack w (bit_xor s t) b.place lt (xor_holds s t b.place b.holds b.lacks) in
         let there : p ≡ b.place = omega (arith, no_sooner b) in
         rw there b.holds
+
+pub before_splits : (s t u : ℕ) → Before s t → Before s u ⊎ Before u t
+before_splits = before_ranking.splits
