@@ -39,6 +39,7 @@ impl LabelKind for Chain {
         a <= b && self.is_label(b)
     }
 
+    // kept beside `join`: the two differ by `min` and `max`, and one function for both would be handed that as a closure
     fn meet(&self, a: u32, b: u32) -> u32 {
         if self.is_label(a) && self.is_label(b) {
             a.min(b)

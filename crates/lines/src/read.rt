@@ -23,6 +23,7 @@ fn read_numbers(fields: &[u8]) -> Option<[u32; 4]>
     ensures { (parts : List (List ℕ)) → Parted fields.now parts → length parts ≤ 4 → MatchOption result ((f : List ℕ) × In f parts × NoNumber f) (Numbered parts) }
 {
     let mut numbers = [0; 4];
+    // kept: no `split` beside the numbers, since a proof knows nothing of what is written through a `zip`
     let mut rest = fields;
     for number in &mut numbers {
         let Some((field, others)) = first_field(rest) else {

@@ -175,6 +175,7 @@ impl Saturates for El {
     fn round(&self, given: &Marked, area: &mut [u8]) -> bool {
         let axioms = Axioms::new(given);
         let mut changed = false;
+        // kept: a loop over numbers, as a proof knows nothing of what the closure of a `fold` leaves in the area
         for x in 0..self.concepts as usize {
             changed |= self.sweep(&axioms, x, area);
         }

@@ -48,6 +48,7 @@ impl Saturates for Links {
             && record.c == 0
     }
 
+    // kept: the same as in `El` but for the field; a method for the field would be no shorter than this line
     fn poses(&self, goal: (u32, u32)) -> bool {
         goal.0 < self.points && goal.1 < self.points
     }

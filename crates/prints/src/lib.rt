@@ -7,6 +7,7 @@ ghost use Rattle.prints.specs.Print.{numbers, axioms, bound, word, boundary_line
 use base::contains;
 
 // What is printed into an output that is lent: so many bytes of it, or `None` once there was no room.
+// kept: no `String` and no `Vec` with it, since no memory is taken
 #[derive(Debug, Drop)]
 pub struct Print<'a> {
     out: &'a mut [u8],

@@ -39,6 +39,7 @@ fn read_sheet(
     ensures { let p = length places.old in let w = length area.old in (file : List ℕ) (before : List AnyLine) → Stands p w file reader.old before → Opened p w before kind logic → Ends p w file print.old result reader.new.lines print.new }
 {
     let mut desk = Desk::open(kind, logic);
+    // kept: no iterator of lines, since a line is behind the reader only when all that it asks was done
     while !reader.is_done() {
         let found = reader.next_line()?;
         desk.take_line(&found.line, places, area, print)?;
@@ -95,6 +96,7 @@ fn read_table(reader: &mut Reader<'_>, first: Found) -> Result<Table, Cause>
 {
     let mut found = first;
     let mut builder = TableBuilder::new(found.line.numbers[0])?;
+    // kept: no iterator of pairs, since the line behind the last pair stays where it is
     while reader.pair_behind(&found) {
         reader.advance(&found);
         found = reader.next_line()?;

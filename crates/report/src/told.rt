@@ -68,6 +68,7 @@ impl ReportFault {
 }
 
 // Prints the line `F,line,layer,number` of a fault, and answers its length; none where the output is too short for it.
+// kept: no `Display`, since the bytes go into an output that is lent, and too short an output is answered, not refused
 pub fn fault_line(fault: ReportFault, out: &mut [u8]) -> Option<usize>
     ensures { Printed (line_of fault) out.old result out.new }
 {
