@@ -14,8 +14,8 @@ use logics::{El, Links, Logic, Record};
 use tables::table::Table;
 
 // One of the four label kinds.
-// kept: each question is passed on by hand, here and below: no function may hand out a `dyn` value, and as a type parameter
-// kind and logic would stand in every clause of the desk
+// kept: each question is passed on by hand, here and below: no function may hand out a `dyn` value, no macro may write an
+// `impl`, and as a type parameter kind and logic would stand in every clause of the desk
 #[derive(Drop)]
 pub enum AnyKind {
     Chain(Chain),

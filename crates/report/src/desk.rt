@@ -66,7 +66,7 @@ impl Desk {
         Ok(())
     }
 
-    // Takes the user of a line, if it is admitted; a 17th user's line is misplaced.
+    // Takes the user of a line, if it is admitted. A 17th user's line may not stand, so that there is room here.
     fn add_user(&mut self, line: &Line) -> Result<(), Cause>
         ensures { (p w : ℕ) (before : List AnyLine) (behind : List ℕ) → line.now.form ≡ User → user_count before < 16 → Keeping p w before self.old → Steps p w before line.now behind result (Keeping p w (before ++ (line.now ∷ [])) self.new) }
     {

@@ -45,7 +45,7 @@ impl Cause {
         }
     }
 
-    // The number by which the refusal is reported.
+    // The number by which the refusal is reported. No discriminants: each cause holds another fault.
     pub fn number(self) -> u32
         ensures { result ≡ number_of self }
     {
