@@ -1,5 +1,5 @@
 -- What is written is read back as the same.
-use Rattle.std.proofs.Common.{◌≡◌, ℕ, zero, suc, ◌-◌, ◌^◌, ◌<◌, List, [], ◌∷◌, ◌++◌, map, length, get_or, take, drop, replicate, decimal, Option, sym, refl, ap, ◌∙◌, subst, ap₂, inl, inr, append_assoc, arith, rules, take-append-drop, length-take-le}
+use Rattle.std.proofs.Common.{◌≡◌, ℕ, zero, suc, ◌-◌, ◌^◌, ◌<◌, ◌≤◌, List, [], ◌∷◌, ◌++◌, map, length, get_or, take, drop, replicate, decimal, Option, Result, Ok, Err, MatchResult, sym, refl, ap, ◌∙◌, subst, ap₂, inl, inr, append_assoc, arith, rules, take-append-drop, length-append, length-drop, length-take-le}
 use Rattle.std.specs.Int.{IsInRange as Between}
 use Rattle.std.proofs.lemmas.Fmt.{digits_decimal, decimal_injective}
 use Rattle.std.proofs.lemmas.List.{append_cancel_left, length-map}
@@ -10,9 +10,10 @@ use Rattle.lines.specs.declared.form.Form.{Form}
 use Rattle.lines.specs.declared.form.Line.{Line}
 use Rattle.lines.specs.declared.fault.TextFault.{TextFault}
 use Rattle.lines.specs.declared.fault.TextFault.TheVariants.{Malformed, Misplaced, NotANumber, PrintTooLong, FileTooLong}
+use Rattle.lines.specs.declared.read.Found.{Found}
 use Rattle.lines.specs.Forms.{opening, arity, May}
 use Rattle.lines.specs.Lines.{numbers_of, body, text, Whole}
-use Rattle.lines.specs.Reading.{Shaped, Ended, TextFails, endless, shapeless, misplaced, unreadable}
+use Rattle.lines.specs.Reading.{Shaped, Ended, Next, TextFails, endless, shapeless, misplaced, unreadable}
 use Rattle.lines.proofs.Numbers.{plain}
 use Rattle.lines.proofs.Fields.{Bare, AllBare, in_middle, bare_append, first_part, fields_unique}
 use Rattle.lines.proofs.Openings.{same_opening, few_numbers}
@@ -132,3 +133,13 @@ module _ (last : Option Form) (users : ℕ) (bs : List ℕ) (x : Line) (after : 
       none n (small_numbers x w n at) is
   no_text_fault PrintTooLong never = elim never [ ]
   no_text_fault FileTooLong never = elim never [ ]
+
+-- bytes that go on with a line that may stand there are read as that line
+pub read_as : (last : Option Form) (users : ℕ) (bs : List ℕ) (r : Result Found TextFault)
+    → MatchResult r (λ y. (0 < y.length) × (y.length ≤ length bs) × Next last users bs y.line (drop y.length bs)) (TextFails last users bs)
+    → (x : Line) (after : List ℕ) → Next last users bs x after → r ≡ Ok (record { line = x; length = length (text x) })
+read_as last users bs (Ok y) (some, within, n) x after m =
+    let (same, behind) = text_unique y.line x n.whole m.whole (drop y.length bs) after (sym n.split ∙ m.split) in
+    let long : y.length ≡ length (text y.line) = omega (arith, within, ap length n.split ∙ length-append (text y.line) (drop y.length bs), length-drop y.length bs) in
+    ap₂ (λ (l : Line) (k : ℕ). Ok (record { line = l; length = k })) same (long ∙ ap (λ (l : Line). length (text l)) same)
+read_as last users bs (Err f) fails x after m = absurd (no_text_fault last users bs x after m.whole m.may m.split f fails)

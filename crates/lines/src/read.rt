@@ -1,6 +1,8 @@
 // One line of a sheet file.
-ghost use Rattle.std.specs.Prelude.{◌≡◌, ℕ, ◌<◌, ◌≤◌, List, [], ◌∷◌, length, drop, MatchOption, MatchResult};
+ghost use Rattle.std.specs.Prelude.{◌≡◌, ℕ, ◌<◌, ◌≤◌, List, [], ◌∷◌, length, drop, Ok, MatchOption, MatchResult};
 ghost use Rattle.base.specs.Words.{In};
+ghost use Rattle.lines.specs.declared.form.Line.{Line as AnyLine};
+ghost use Rattle.lines.specs.Lines.{text};
 ghost use Rattle.lines.specs.Reading.{Parted, NoNumber, Numbered, Next, TextFails};
 
 use crate::cut::find;
@@ -44,7 +46,8 @@ pub struct Found {
 
 // The next line of a file, after a line of the form `last` and so many lines for users.
 pub fn read_line(rest: &[u8], last: Option<Form>, users: usize) -> Result<Found, TextFault>
-    ensures { MatchResult result (λ x. (0 < x.length) × (x.length ≤ length rest.now) × Next last users rest.now x.line (drop x.length rest.now)) (TextFails last users rest.now) }
+    ensures told { MatchResult result (λ x. (0 < x.length) × (x.length ≤ length rest.now) × Next last users rest.now x.line (drop x.length rest.now)) (TextFails last users rest.now) }
+    ensures inverse { (x : AnyLine) (after : List ℕ) → Next last users rest.now x after → result ≡ Ok (record { line = x; length = length (text x) }) }
 {
     let end = find(rest, b'\n').ok_or(TextFault::Malformed)?;
     let (form, fields) = shape_of(&rest[..end]).ok_or(TextFault::Malformed)?;
