@@ -99,7 +99,6 @@ impl<K: LabelKind, L: Logic> Sheet<K, L> {
     }
 
     // Fills the places with all supports of the goal, and answers how many there are.
-    // kept: places and area come one by one, here and below, as the caller lends each: a rule of the project
     pub fn supports(
         &self,
         goal: (u32, u32),
