@@ -1,5 +1,6 @@
 -- What stands in a list, and lists in which each comes before the next.
-use Rattle.std.proofs.Common.{◌≡◌, ℕ, zero, suc, ◌<◌, ◌≤◌, ◌⊎◌, List, [], ◌∷◌, ◌++◌, length, get_or, sym, refl, subst, ap₂, inl, inr, ⊎_elim, arith}
+use Rattle.std.proofs.Common.{◌≡◌, ℕ, zero, suc, ◌<◌, ◌≤◌, ◌⊎◌, List, [], ◌∷◌, ◌++◌, length, get_or, take, drop, sym, refl, subst, ap₂, inl, inr, ⊎_elim, arith, take-append-drop}
+use native.Mathlib.Decide.{dec_lt}
 use Rattle.base.specs.Words.{Iff, In}
 use Rattle.ordered.specs.Lists.{Ascending, Ranking}
 
@@ -40,6 +41,25 @@ module _ {A : Type 0} (R : A → A → Type 0) where
   pub ascending_cons : (x : A) (xs : List A) → ((y : A) → In y xs → R x y) → Ascending R xs → Ascending R (x ∷ xs)
   ascending_cons x [] first up = tt
   ascending_cons x (y ∷ ys) first up = (first y (inl refl), up)
+
+  front : (x : A) (xs ys : List A) → Ascending R (x ∷ (xs ++ ys)) → Ascending R (x ∷ xs)
+  front x [] ys up = tt
+  front x (y ∷ xs) ys up = (up.0, front y xs ys up.1)
+
+  -- a part at either end of an ascending list ascends
+  pub ascending_front : (xs ys : List A) → Ascending R (xs ++ ys) → Ascending R xs
+  ascending_front [] ys up = tt
+  ascending_front (x ∷ xs) ys up = front x xs ys up
+
+  pub ascending_back : (xs ys : List A) → Ascending R (xs ++ ys) → Ascending R ys
+  ascending_back [] ys up = up
+  ascending_back (x ∷ xs) ys up = ascending_back xs ys (ascending_tail x (xs ++ ys) up)
+
+  pub ascending_take : (n : ℕ) (xs : List A) → Ascending R xs → Ascending R (take n xs)
+  ascending_take n xs up = ascending_front (take n xs) (drop n xs) (rw take-append-drop up)
+
+  pub ascending_drop : (n : ℕ) (xs : List A) → Ascending R xs → Ascending R (drop n xs)
+  ascending_drop n xs up = ascending_back (take n xs) (drop n xs) (rw take-append-drop up)
 
 module _ {A : Type 0} {R : A → A → Type 0} (order : Ranking R) where
   -- the first comes before every other, so it comes once
@@ -108,3 +128,11 @@ module _ {A : Type 0} {R : A → A → Type 0} (order : Ranking R) where
             h),
       ))
       (within x (inl refl))
+
+-- numbers are ranked by their size
+pub ranking_numbers : Ranking ◌<◌
+ranking_numbers = record {
+  irreflexive = λ a h. omega arith;
+  transitive = λ a b c h g. omega arith;
+  splits = λ a b c h. elim (dec_lt a c) [ yes lt ↦ inl lt | no ge ↦ inr (omega arith) ];
+}

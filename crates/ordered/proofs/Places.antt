@@ -1,69 +1,40 @@
 -- The place of a thing in an ascending list, and the list with the thing put in there.
-use Rattle.std.proofs.Common.{◌≡◌, ℕ, ◌+◌, ◌-◌, ◌<◌, ◌≤◌, ◌⊎◌, List, ◌∷◌, ◌++◌, length, get_or, take, drop, set, Ok, Err, Result, Ordering, Less, Equal, Greater, refl, sym, ap, ◌∙◌, subst, inl, inr, ⊎_elim, arith, MatchResult, IfErr}
-use Rattle.std.specs.Ordering.{ordering_index}
+use Rattle.std.proofs.Common.{◌≡◌, ℕ, ◌+◌, ◌-◌, ◌<◌, ◌≤◌, ◌⊎◌, List, ◌∷◌, ◌++◌, length, get_or, take, drop, set, sym, ap, ◌∙◌, subst, inl, inr, ⊎_elim, arith}
 use Rattle.std.specs.List.{insert}
-use Rattle.std.specs.List.Sorted.{IsNonDecreasingBy, IsSearchInRange, IsBinarySearchResult}
 use native.Mathlib.Decide.{ℕ_discrete}
 use lib.Seq.{paste}
-use Rattle.std.proofs.lemmas.List.{get_or-take, get_or-drop, length-append, length-take, length-take-le, length-drop, append_assoc, take-append-drop, take_more, take_at, take-take, drop-take, set_at}
+use Rattle.std.proofs.lemmas.List.{get_or_read, get_or-take, get_or-drop, length-append, length-take, length-take-le, length-drop, append_assoc, take-append-drop, take_more, take_at, take-take, drop_at, drop-take, set_at}
 use Rattle.base.specs.Words.{Iff, In}
-use Rattle.ordered.specs.Lists.{Ascending, Ranking, Ranks, Level, Gap, opened}
+use Rattle.ordered.specs.Lists.{Ascending, Ranking, Level, FirstOnes, LaterOnes, Gap, opened}
 use Rattle.ordered.proofs.Lists.{in_append, in_get_or, in_insert, ascending_places, ascending_insert}
 
-module _ {A : Type 0} {R : A → A → Type 0} (order : Ranking R) where
-  never_both : (a b : A) → R a b → R b a → ⊥
-  never_both a b h g = order.irreflexive a (order.transitive a b a h g)
+module _ {A : Type 0} {R : A → A → Type 0} (order : Ranking R) (xs : List A) (up : Ascending R xs) (x : A) where
+  -- where the entry y at place i comes before x, so do those below it
+  pub all_first : (i : ℕ) (y : A) → i < length xs → y ≡ get_or xs i y → R y x → FirstOnes R xs x (i + 1)
+  all_first i y within read here k d h =
+      let there : R (get_or xs i d) x = subst (λ (a : A). R a x) (get_or_read xs i y within read d) here in
+      elim (ℕ_discrete k i) [
+        | yes e ↦ subst (λ (n : ℕ). R (get_or xs n d) x) (sym e) there
+        | no ne ↦ order.transitive _ _ _ (ascending_places order xs up k i d (omega arith) within) there
+      ]
 
-  -- two things rank in one way
-  ranks_one : (a b : A) (r s : Ordering) → Ranks R a b r → Ranks R a b s → r ≡ s
-  ranks_one a b Less Less h g = refl
-  ranks_one a b Less Equal h g = absurd (g.0 h)
-  ranks_one a b Less Greater h g = absurd (never_both a b h g)
-  ranks_one a b Equal Less h g = absurd (h.0 g)
-  ranks_one a b Equal Equal h g = refl
-  ranks_one a b Equal Greater h g = absurd (h.1 g)
-  ranks_one a b Greater Less h g = absurd (never_both a b g h)
-  ranks_one a b Greater Equal h g = absurd (g.1 h)
-  ranks_one a b Greater Greater h g = refl
+  -- where x comes before the entry y at place i, it comes before those above it
+  pub all_later : (i : ℕ) (y : A) → i < length xs → y ≡ get_or xs i y → R x y → LaterOnes R xs x i
+  all_later i y room read here k d h within =
+      let there : R x (get_or xs i d) = subst (R x) (get_or_read xs i y room read d) here in
+      elim (ℕ_discrete k i) [
+        | yes e ↦ subst (λ (n : ℕ). R x (get_or xs n d)) (sym e) there
+        | no ne ↦ order.transitive _ _ _ there (ascending_places order xs up i k d (omega arith) within)
+      ]
 
-  -- against one thing, a later one ranks no lower
-  ranks_rise : (a b x : A) (r s : Ordering) → R a b → Ranks R a x r → Ranks R b x s → ordering_index r ≤ ordering_index s
-  ranks_rise a b x Less s up h g = omega arith
-  ranks_rise a b x Equal Less up h g = absurd (h.0 (order.transitive a b x up g))
-  ranks_rise a b x Equal Equal up h g = omega arith
-  ranks_rise a b x Equal Greater up h g = omega arith
-  ranks_rise a b x Greater Less up h g = absurd (never_both x b (order.transitive x a b h up) g)
-  ranks_rise a b x Greater Equal up h g = absurd (g.1 (order.transitive x a b h up))
-  ranks_rise a b x Greater Greater up h g = omega arith
+  -- no other entry is level with x: those below one that is come before x, and x before those above it
+  pub level_first : (i : ℕ) → i < length xs → ((d : A) → Level R (get_or xs i d) x) → FirstOnes R xs x i
+  level_first i within level k d h =
+      ⊎_elim (λ g. g) (λ g. absurd ((level d).1 g)) (order.splits _ _ x (ascending_places order xs up k i d h within))
 
-  module _ (x : A) where
-    -- how an entry ranks against x
-    abbrev pub rank_of : A → Ordering
-    rank_of y = (order.ranks y x).0
-
-    pub rank_only : (y : A) (r : Ordering) → Ranks R y x r → r ≡ rank_of y
-    rank_only y r h = ranks_one y x r (rank_of y) h (order.ranks y x).1
-
-    rank_is : (y : A) (r : Ordering) → rank_of y ≡ r → Ranks R y x r
-    rank_is y r e = subst (Ranks R y x) e (order.ranks y x).1
-
-    rank_rises : (xs : List A) → Ascending R xs → IsNonDecreasingBy (λ y. ordering_index (rank_of y)) xs
-    rank_rises xs up i j d le within =
-        elim (ℕ_discrete i j) [
-          | yes e ↦ rw e (omega arith)
-          | no ne ↦ ranks_rise _ _ x _ _ (ascending_places order xs up i j d (omega arith) within) (order.ranks (get_or xs i d) x).1 (order.ranks (get_or xs j d) x).1
-        ]
-
-    -- what a search by rank finds
-    pub searched : (xs : List A) (r : Result ℕ ℕ) → IsSearchInRange r (length xs) → IsBinarySearchResult rank_of xs r
-        → MatchResult r (λ i. (i < length xs) × ((d : A) → Level R (get_or xs i d) x)) (λ p. p ≤ length xs) × (Ascending R xs → IfErr r (Gap R xs x))
-    searched xs (Ok i) within at = ((within, λ d. rank_is (get_or xs i d) Equal (at d)), λ up. tt)
-    searched xs (Err p) within parts = (
-      within,
-      λ up.
-          let (first, later) = parts (rank_rises xs up) in
-          (λ k d h. rank_is (get_or xs k d) Less (first k d (omega arith) h), λ k d h lt. rank_is (get_or xs k d) Greater (later k d h lt)),
-    )
+  pub level_later : (i : ℕ) → ((d : A) → Level R (get_or xs i d) x) → LaterOnes R xs x (i + 1)
+  level_later i level k d h within =
+      ⊎_elim (λ g. absurd ((level d).0 g)) (λ g. g) (order.splits _ _ x (ascending_places order xs up i k d (omega arith) within))
 
 module _ {A : Type 0} (R : A → A → Type 0) (xs : List A) (x : A) (p : ℕ) (within : p ≤ length xs) (gap : Gap R xs x p) where
   -- the entries below a gap, and those from it on
@@ -83,6 +54,10 @@ module _ {A : Type 0} (R : A → A → Type 0) (xs : List A) (x : A) (p : ℕ) (
   gap_apart y h =
       let split : In y (take p xs ++ drop p xs) = rw take-append-drop h in
       ⊎_elim (λ g. inl (gap_below y g)) (λ g. inr (gap_above y g)) ((in_append y (take p xs) (drop p xs)).0 split)
+
+-- so x itself is no entry
+pub gap_fresh : {A : Type 0} {R : A → A → Type 0} → Ranking R → (xs : List A) (x : A) (p : ℕ) → p ≤ length xs → Gap R xs x p → In x xs → ⊥
+gap_fresh {A} {R} order xs x p within gap h = ⊎_elim (order.irreflexive x) (order.irreflexive x) (gap_apart R xs x p within gap x h)
 
 -- the members of a list with x put in are those that were, and x
 pub in_inserted : {A : Type 0} (xs : List A) (p : ℕ) (x y : A) → Iff (In y (insert xs p x)) ((y ≡ x) ⊎ In y xs)
@@ -111,8 +86,12 @@ module _ {A : Type 0} (xs : List A) (count place : ℕ) (x : A) (room : count < 
   long = simp (length-append, length-drop, length-take) (omega arith)
 
   -- in use are then the entries that were, and x in its place
-  take_opened : take (count + 1) (opened xs count place x) ≡ insert (take count xs) place x
+  pub take_opened : take (count + 1) (opened xs count place x) ≡ insert (take count xs) place x
   take_opened = take_at (insert (take count xs) place x) (drop (count + 1) xs) (count + 1) long
+
+  -- what stands behind them is as it was
+  pub drop_opened : drop (count + 1) (opened xs count place x) ≡ drop (count + 1) xs
+  drop_opened = drop_at (insert (take count xs) place x) (drop (count + 1) xs) (count + 1) long
 
   pub length_opened : length (opened xs count place x) ≡ length xs
   length_opened = simp (length-append, length-drop, length-take) (omega arith)

@@ -25,7 +25,6 @@ pub record Ranking {A : Type 0} (Before : A → A → Type 0) : Type 0 where
   pub irreflexive : (a : A) → Before a a → ⊥
   pub transitive : (a b c : A) → Before a b → Before b c → Before a c
   pub splits : (a b c : A) → Before a b → Before a c ⊎ Before c b
-  pub ranks : (a b : A) → (r : Ordering) × Ranks Before a b r
 
 -- the entries below place p come before x
 abbrev pub FirstOnes : {A : Type 0} → (A → A → Type 0) → List A → A → ℕ → Type 0

@@ -1,5 +1,5 @@
 -- How an order comes to have the laws.
-use Rattle.std.proofs.Common.{◌≡◌, ◌⊎◌, Less, Equal, Greater, subst, inl, inr, ⊎_elim}
+use Rattle.std.proofs.Common.{◌≡◌, ◌⊎◌, subst, inl, inr, ⊎_elim}
 use Rattle.ordered.specs.Lists.{Ranking, Level}
 
 -- where only what is one is level
@@ -14,7 +14,6 @@ module _ {A : Type 0} {R : A → A → Type 0} (total : (a b : A) → (a ≡ b) 
     irreflexive = irreflexive;
     transitive = transitive;
     splits = λ a b c h. ⊎_elim (λ e. inr (subst (λ (x : A). R x b) e h)) (⊎_elim inl (λ g. inr (transitive c a b g h))) (total a c);
-    ranks = λ a b. elim (total a b) [ inl e ↦ (Equal, subst (Level R a) e (irreflexive a, irreflexive a)) | inr (inl h) ↦ (Less, h) | inr (inr h) ↦ (Greater, h) ];
   }
 
 -- things are ranked by a key of theirs
@@ -23,5 +22,4 @@ ranking_by key order = record {
   irreflexive = λ a. order.irreflexive (key a);
   transitive = λ a b c. order.transitive (key a) (key b) (key c);
   splits = λ a b c. order.splits (key a) (key b) (key c);
-  ranks = λ a b. order.ranks (key a) (key b);
 }

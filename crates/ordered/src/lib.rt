@@ -44,7 +44,19 @@ pub fn place_of<E: Ranked>(list: &[E], x: E) -> Result<usize, usize>
     ensures found { MatchResult result (λ i. (i < length list.now) × ((d : E) → Level E.before (slice_index_or list.now i d) x)) (λ p. p ≤ length list.now) }
     ensures gap { Ascending E.before list.now → IfErr result (Gap E.before list.now x) }
 {
-    list.binary_search_by(|entry| entry.rank(x))
+    // kept: a search by hand, since `binary_search_by` says what it finds only to one who can say beforehand how any two things
+    // rank, and the law of `Ranked` does not ask that
+    let mut low = 0;
+    let mut high = list.len();
+    while low < high {
+        let middle = low + (high - low) / 2;
+        match list[middle].rank(x) {
+            Ordering::Less => low = middle + 1,
+            Ordering::Greater => high = middle,
+            Ordering::Equal => return Ok(middle),
+        }
+    }
+    Err(low)
 }
 
 // There is no room for one more, or the place lies past the entries in use.
