@@ -7,7 +7,7 @@ use Rattle.base.specs.Words.{Iff, In}
 use Rattle.base.proofs.Sets.{has_zero, has_minus, same_set, subset_le}
 use Rattle.logics.specs.Entailment.{Monotone}
 use Rattle.supports.specs.Asked.{Asked, Yields, Support, SomeSupports, AllSupports}
-use Rattle.supports.specs.Search.{HitsAll, Done}
+use Rattle.supports.specs.Search.{HitsAll, Earlier, Done}
 use Rattle.supports.proofs.Lacking.{within_or_not}
 use Rattle.supports.proofs.Yielding.{yields_more}
 
@@ -60,6 +60,9 @@ module _ (q : Asked) (small : q.all < 2 ^ 64) where
 module _ (q : Asked) where
   pub none_yet : SomeSupports q []
   none_yet = record { sound = λ s i. absurd i; ascending = tt }
+
+  pub nothing_out : (known : List ℕ) (may : ℕ) → Earlier q known 0 may
+  nothing_out known may e h in_out = absurd (has_zero e in_out)
 
   -- what does not follow from all axioms has no support
   pub none_found : Monotone q.logic → (Yields q q.all → ⊥) → AllSupports q []

@@ -133,6 +133,9 @@ module _ (q : Asked) where
     fewer : (h : ℕ) → HitsAll h more → HitsAll h known
     fewer h hits s k = hits s (grows s k)
 
+    pub done_grows : (out may : ℕ) → Done q known out may → Done q more out may
+    done_grows out may done h region hits = done h region (fewer h hits)
+
     pub earlier_grows : (out may : ℕ) → Earlier q known out may → Earlier q more out may
     earlier_grows out may earlier e h in_out without hits = earlier e h in_out without (fewer h hits)
 

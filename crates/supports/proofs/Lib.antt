@@ -7,3 +7,4 @@ pub mod Joining
 pub mod Looking
 pub mod Growing
 pub mod Branching
+pub mod Zeroing

@@ -1,9 +1,8 @@
 -- One look over the known supports, one after the other.
-use Rattle.std.proofs.Common.{◌≡◌, ℕ, ◌-◌, ◌^◌, ◌<◌, ◌⊎◌, List, [], ◌∷◌, ◌++◌, Some, None, Option, sym, refl, ◌∙◌, subst, inl, inr, ⊎_elim, arith, MatchOption}
+use Rattle.std.proofs.Common.{◌≡◌, ℕ, ◌-◌, ◌^◌, ◌<◌, ◌≤◌, ◌⊎◌, List, [], ◌∷◌, ◌++◌, Some, None, Option, sym, refl, ◌∙◌, subst, inl, inr, ⊎_elim, arith, MatchOption}
 use native.Mathlib.Decide.{ℕ_discrete}
 use lib.Bits.{bit_and, bit_or}
 use lib.Count.{ones}
-use Rattle.std.proofs.lemmas.Nat.{zero_from_ones, ones_le_self}
 use Rattle.base.specs.Bits.{Has, Subset}
 use Rattle.base.specs.Words.{Iff, In}
 use Rattle.base.proofs.Sets.{has_and, has_or, has_or_left, has_or_right, has_zero, some_place, has_without, same_set, subset_le}
@@ -13,10 +12,10 @@ use Rattle.supports.proofs.Lacking.{within_or_not}
 use Rattle.supports.specs.Search.{Apart, Hits, HitsAll, Spare, Looked, Glanced}
 
 -- a set of more than one place has another beside each of its places
-another : (y e : ℕ) → 1 < ones y → Has y e → (i : ℕ) × Has y i × (i ≡ e → ⊥)
+another : (y e : ℕ) → (ones y ≤ 1 → ⊥) → Has y e → (i : ℕ) × Has y i × (i ≡ e → ⊥)
 another y e many here =
     elim (some_place (y - 2 ^ e)) [
-      | inl none ↦ absurd (omega (arith, (ones_iff y).1 (λ i j p q. only none i p ∙ sym (only none j q))))
+      | inl none ↦ absurd (many ((ones_iff y).1 (λ i j p q. only none i p ∙ sym (only none j q))))
       | inr p ↦ let (in_y, ne) = (has_without e y p.0 here).0 p.1 in (p.0, in_y, ne)
     ]
   where
@@ -27,30 +26,25 @@ another y e many here =
 
 -- the three ways of a glance: s is not hit, hit by one axiom of `out`, hit by several
 module _ (out s : ℕ) (unhit : Option ℕ) (sole : ℕ) where
-  pub glance_apart : ones (bit_and s out) ≡ 0 → Glanced out s unhit sole (Some s) sole
+  pub glance_apart : bit_and s out ≡ 0 → Glanced out s unhit sole (Some s) sole
   glance_apart none =
-      let empty : bit_and s out ≡ 0 = zero_from_ones (bit_and s out) none in
-      let apart : Apart s out = λ i p q. has_zero i (subst (λ (x : ℕ). Has x i) empty ((has_and s out i).1 (p, q))) in
+      let apart : Apart s out = λ i p q. has_zero i (subst (λ (x : ℕ). Has x i) none ((has_and s out i).1 (p, q))) in
       record { missed = inl (apart, refl); keeps = λ i p. p; inside = λ sub. sub; spare = λ e p q _. absurd (apart e p q) }
 
-  hit : 0 < ones (bit_and s out) → Hits out s
-  hit some =
-      elim (some_place (bit_and s out)) [
-        | inl e ↦ absurd (omega (arith, ones_le_self (bit_and s out)))
-        | inr p ↦ let q = (has_and s out p.0).0 p.1 in (p.0, q.1, q.0)
-      ]
+  hit : (bit_and s out ≡ 0 → ⊥) → Hits out s
+  hit some = elim (some_place (bit_and s out)) [ inl e ↦ absurd (some e) | inr p ↦ let q = (has_and s out p.0).0 p.1 in (p.0, q.1, q.0) ]
 
-  pub glance_one : ones (bit_and s out) ≡ 1 → Glanced out s unhit sole unhit (bit_or sole (bit_and s out))
-  glance_one one = record {
-    missed = inr (hit (omega arith), refl);
+  pub glance_one : (bit_and s out ≡ 0 → ⊥) → Glanced out s unhit sole unhit (bit_or sole (bit_and s out))
+  glance_one some = record {
+    missed = inr (hit some, refl);
     keeps = has_or_left sole (bit_and s out);
     inside = λ sub i p. ⊎_elim (sub i) (λ q. ((has_and s out i).0 q).1) (has_or sole (bit_and s out) i p);
     spare = λ e p q not_sole. absurd (not_sole (has_or_right sole (bit_and s out) e ((has_and s out e).1 (p, q))));
   }
 
-  pub glance_many : 1 < ones (bit_and s out) → Glanced out s unhit sole unhit sole
-  glance_many many = record {
-    missed = inr (hit (omega arith), refl);
+  pub glance_many : (ones (bit_and s out) ≤ 1 → ⊥) → (bit_and s out ≡ 0 → ⊥) → Glanced out s unhit sole unhit sole
+  glance_many many some = record {
+    missed = inr (hit some, refl);
     keeps = λ i p. p;
     inside = λ sub. sub;
     spare = λ e p q _.

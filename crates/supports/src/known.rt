@@ -33,16 +33,19 @@ impl Look {
         ensures { Glanced out support self.unhit self.sole result.unhit result.sole }
     {
         let both = support & out;
-        match both.count_ones() {
-            0 => Look {
+        // kept: two tests and no `match` on the count, which made the look over many supports twice as slow
+        if both == 0 {
+            Look {
                 unhit: Some(support),
                 ..self
-            },
-            1 => Look {
+            }
+        } else if both.count_ones() <= 1 {
+            Look {
                 sole: self.sole | both,
                 ..self
-            },
-            _ => self,
+            }
+        } else {
+            self
         }
     }
 }
