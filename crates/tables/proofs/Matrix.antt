@@ -11,7 +11,7 @@ use Rattle.tables.specs.Table.{Reach, here, step, table, more, Looped}
 use Rattle.tables.proofs.Chains.{reach_none, reach_more, by_last, last_by, in_last}
 
 -- rows of zeros
-zeros_at : (n i : ℕ) → ◌≡◌ {A = ℕ} (slice_index (replicate n 0) i) 0
+pub zeros_at : (n i : ℕ) → ◌≡◌ {A = ℕ} (slice_index (replicate n 0) i) 0
 zeros_at zero i = refl
 zeros_at (suc n) zero = refl
 zeros_at (suc n) (suc i) = zeros_at n i

@@ -61,11 +61,12 @@ impl Order {
         ensures linked { Linked self.old.rows self.new.rows low high }
     {
         let above = self.rows[high as usize];
-        let rows = self.rows.map(|row| if contains(u64::from(row), low) {
-            row | above
-        } else {
-            row
-        });
+        let mut rows = self.rows;
+        for row in &mut rows[..self.labels as usize] {
+            if contains(u64::from(*row), low) {
+                *row |= above;
+            }
+        }
         self.rows = rows;
     }
 
@@ -73,7 +74,8 @@ impl Order {
     fn column(&self, b: u32) -> u32
         ensures { IsColumn self.now.rows b result }
     {
-        places_where(&self.rows, |row| contains(u64::from(*row), b)) as u32
+        let rows = &self.rows[..self.labels as usize];
+        places_where(rows, |row| contains(u64::from(*row), b)) as u32
     }
 
     // The same order, seen from above: bit a of row b says that a is at or below b.
@@ -81,10 +83,13 @@ impl Order {
         ensures labels { result.labels ≡ self.now.labels }
         ensures flipped { Flipped self.now.rows result.rows }
     {
-        Order {
-            labels: self.labels,
-            rows: array::from_fn(|b| self.column(b as u32)),
-        }
+        let labels = self.labels;
+        let rows = array::from_fn(|b| if b < labels as usize {
+            self.column(b as u32)
+        } else {
+            0
+        });
+        Order { labels, rows }
     }
 
     // The label with this row, where there is one.
@@ -95,28 +100,23 @@ impl Order {
         rows.iter().position(|r| *r == row).map(|label| label as u8)
     }
 
-    // The least label at or above a and b, and 0 where one of them is no label.
+    // The least label at or above a and b.
     fn join_of(&self, a: usize, b: usize) -> Result<u8, KindFault>
-        requires a { a < 32 }
-        requires b { b < 32 }
+        requires a { a < self.now.labels }
+        requires b { b < self.now.labels }
         ensures { let order = matrix self.now.labels self.now.rows in Joined order (Joins order a b) result }
     {
-        let labels = self.labels as usize;
-        if a < labels && b < labels {
-            self.label_of(self.rows[a] & self.rows[b])
-                .ok_or(KindFault::NoMeetOrJoin)
-        } else {
-            Ok(0)
-        }
+        self.label_of(self.rows[a] & self.rows[b])
+            .ok_or(KindFault::NoMeetOrJoin)
     }
 
     // The joins of a with each label.
     fn join_row(&self, a: usize) -> Result<[u8; 32], KindFault>
-        requires { a < 32 }
+        requires { a < self.now.labels }
         ensures { let order = matrix self.now.labels self.now.rows in Joined order (JoinRow order a) result }
     {
         let mut row = [0; 32];
-        for (b, join) in row.iter_mut().enumerate() {
+        for (b, join) in row[..self.labels as usize].iter_mut().enumerate() {
             *join = self.join_of(a, b)?;
         }
         Ok(row)
@@ -127,7 +127,7 @@ impl Order {
         ensures { let order = matrix self.now.labels self.now.rows in Joined order (JoinsAll order) result }
     {
         let mut table = [[0; 32]; 32];
-        for (a, row) in table.iter_mut().enumerate() {
+        for (a, row) in table[..self.labels as usize].iter_mut().enumerate() {
             *row = self.join_row(a)?;
         }
         Ok(table)
