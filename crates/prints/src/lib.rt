@@ -6,36 +6,58 @@ ghost use Rattle.prints.specs.Print.{numbers, axioms, bound, word, boundary_line
 
 use base::contains;
 
-// What is printed into an output that is lent: so many bytes of it, or `None` once there was no room.
-// kept: no `String` and no `Vec` with it, since no memory is taken
-#[derive(Debug, Drop)]
-pub struct Print<'a> {
-    out: &'a mut [u8],
+// How far a print has come: so many bytes stand in the output, or it is longer than the output.
+#[derive(Clone, Copy, PartialEq, Eq, Debug)]
+pub struct Print {
     pub length: Option<usize>,
 }
 
-impl<'a> Print<'a> {
+impl Print {
+    // A print of which nothing stands in the output yet.
+    pub fn new() -> Print
+        ensures { result.length ≡ Some 0 }
+    {
+        Print { length: Some(0) }
+    }
+
+    // The print with the output that it goes on in.
+    pub fn over(self, out: &mut [u8]) -> Printer<'_>
+        ensures print { result.print ≡ self }
+        ensures over { result.out ≡ out.entry }
+    {
+        Printer { out, print: self }
+    }
+}
+
+// A print, and the output that is lent to it.
+// kept: no `String` and no `Vec` in place of the output, since no memory is taken
+#[derive(Debug, Drop)]
+pub struct Printer<'a> {
+    out: &'a mut [u8],
+    pub print: Print,
+}
+
+impl<'a> Printer<'a> {
     ghost use Rattle.prints.specs.Output.{PrintedBy, Adds};
 
-    // A print of which nothing stands in the output yet.
-    pub fn new(out: &'a mut [u8]) -> Print<'a>
-        ensures empty { result.length ≡ Some 0 }
+    // Nothing stands in the output yet.
+    pub fn new(out: &'a mut [u8]) -> Printer<'a>
+        ensures empty { result.print.length ≡ Some 0 }
         ensures printed { PrintedBy [] out.entry result }
     {
-        let length = Some(0);
-        Print { out, length }
+        Print::new().over(out)
     }
 
     // One byte; without room for it the print is too long.
     pub fn byte(&mut self, b: u8)
         ensures { Adds (b ∷ []) self.old self.new }
     {
-        if let Some(at) = self.length {
+        if let Some(at) = self.print.length {
             if at < self.out.len() {
                 self.out[at] = b;
-                self.length = Some(at + 1);
+                self.print.length = Some(at + 1);
             } else {
-                self.length = None;
+                self.print.length = None;
             }
         }
     }

@@ -2,7 +2,7 @@
 use Rattle.std.proofs.Common.{◌≡◌, ℕ, ◌+◌, ◌<◌, ◌≤◌, List, [], ◌∷◌, ◌++◌, length, drop, Err, Option, Result, IsErrAnd, sym, refl, ap, ◌∙◌, subst, inl, inr, append-nil, arith}
 use Rattle.std.proofs.lemmas.Result.{err_from_is_err_and}
 use Rattle.base.specs.Checks.{FirstOf, NoneOf}
-use Rattle.prints.specs.declared.Print.{Print}
+use Rattle.prints.specs.declared.Printer.{Printer}
 use Rattle.prints.specs.Output.{Adds}
 use Rattle.prints.proofs.Adding.{adds_both}
 use Rattle.lines.specs.declared.fault.TextFault.{TextFault}
@@ -53,10 +53,10 @@ module _ {p w : ℕ} {file : List ℕ} {reader : Reader} {ls : List Line} (stand
       let (after, few) = subst (λ (h : Option Form). May h (user_count ls) x.line.form) is (by_lines (λ last users. May last users x.line.form) gets.next.may) in
       (elim after [ inl (early, _) ↦ absurd (omega arith) | inr (_, three, _) ↦ three ], few)
 
-module _ {p w : ℕ} {file : List ℕ} {begun : Print} {reader : Reader} {ls : List Line} {desk : Desk} {print : Print} (along : Along p w file begun reader ls desk print) where
+module _ {p w : ℕ} {file : List ℕ} {begun : Printer} {reader : Reader} {ls : List Line} {desk : Desk} {print : Printer} (along : Along p w file begun reader ls desk print) where
   -- one line more
   pub along_more : {x : Found} → Gets reader x → NoneOf (line_checks p w ls x.line (drop x.length reader.rest.now)) → {desk' : Desk} → Keeping p w (ls ++ (x.line ∷ [])) desk'
-      → {print' : Print} → LinePrinted p w ls x.line print print' → {reader' : Reader} → Advanced reader x reader' → Along p w file begun reader' (ls ++ (x.line ∷ [])) desk' print'
+      → {print' : Printer} → LinePrinted p w ls x.line print print' → {reader' : Reader} → Advanced reader x reader' → Along p w file begun reader' (ls ++ (x.line ∷ [])) desk' print'
   along_more {x} gets none keeping (s, prints, adds) moved =
       let (three, _) = late_line along.stands along.late gets in
       record {

@@ -2,7 +2,7 @@
 use Rattle.std.proofs.Common.{◌≡◌, ℕ, ◌-◌, ◌<◌, Bool, true, false, cond, eqb, List, [], ◌∷◌, ◌++◌, length, take, replicate, Ok, Err, Option, Result, sym, refl, ap, ◌∙◌, subst, ap₂, inl, inr, arith, eqb-true}
 use native.Mathlib.Decide.{dec_lt}
 use Rattle.std.proofs.lemmas.List.{take_at}
-use Rattle.prints.specs.declared.Print.{Print}
+use Rattle.prints.specs.declared.Printer.{Printer}
 use Rattle.prints.specs.Output.{Adds}
 use Rattle.prints.specs.Print.{boundary_line, support_lines, block}
 use Rattle.prints.proofs.Adding.{adds_both}
@@ -140,8 +140,8 @@ module _ {p w : ℕ} {before : List Line} {desk : Desk} (keeping : Keeping p w b
 pub goal_done : (p w : ℕ) (before : List Line) (x : Line) (behind : List ℕ) → x.form ≡ GoalLine → NoneOf (line_checks p w before x behind) → {Kept : Type 0} → Kept → Lawful (kind_of (before ++ (x ∷ [])))
     → (v : Option ℕ) → IsBoundary (kind_of (before ++ (x ∷ []))) (logic_of (before ++ (x ∷ []))) (book_of p w (before ++ (x ∷ []))) (two x) v
     → (ss : List ℕ) → AllSupports (logic_of (before ++ (x ∷ []))) (book_of p w (before ++ (x ∷ []))) (two x) ss
-    → {q₀ q₁ q₂ : Print} → Adds (boundary_line (two x) v) q₀ q₁ → Adds (support_lines (two x) ss) q₁ q₂
-    → (r : Result (Unit {0}) Cause) (q₃ : Print) → Sighted p w (before ++ (x ∷ [])) (two x) r q₂ q₃ → Steps p w before x behind r (Kept × LinePrinted p w before x q₀ q₃)
+    → {q₀ q₁ q₂ : Printer} → Adds (boundary_line (two x) v) q₀ q₁ → Adds (support_lines (two x) ss) q₁ q₂
+    → (r : Result (Unit {0}) Cause) (q₃ : Printer) → Sighted p w (before ++ (x ∷ [])) (two x) r q₂ q₃ → Steps p w before x behind r (Kept × LinePrinted p w before x q₀ q₃)
 goal_done p w before x behind is none kept lawful v bounds ss all first second (Ok _) q₃ (seen, sights, third) =
     let ls = before ++ (x ∷ []) in
     let prints : GoalPrints (kind_of ls) (logic_of ls) (book_of p w ls) (users_of ls) (two x) (block (two x) v ss seen) =

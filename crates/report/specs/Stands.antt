@@ -10,7 +10,7 @@ use Rattle.tables.specs.Rows.{Keeps as KeepsPairs}
 use Rattle.logics.specs.Entailment.{Goal}
 use Rattle.engine.specs.Book.{blank}
 use Rattle.engine.specs.Obeys.{Holds}
-use Rattle.prints.specs.declared.Print.{Print}
+use Rattle.prints.specs.declared.Printer.{Printer}
 use Rattle.prints.specs.Output.{Printed, Adds}
 use Rattle.prints.specs.Print.{sight_lines}
 use Rattle.lines.specs.declared.fault.TextFault.{TextFault}
@@ -141,17 +141,17 @@ module _ (p w : ℕ) where
   Shows before g = ((logic_of before).TakesGoal g) × In g (book_of p w before).published
 
   -- what the users see of the goal is printed; nobody is refused
-  abbrev pub Sighted : List Line → Goal → Result (Unit {0}) Cause → Print → Print → Type 0
+  abbrev pub Sighted : List Line → Goal → Result (Unit {0}) Cause → Printer → Printer → Type 0
   Sighted before g (Ok _) old new =
       (seen : List (ℕ × Bool)) × Seen (kind_of before) (logic_of before) (book_of p w before) g (users_of before) seen × Adds (sight_lines g seen) old new
   Sighted before g (Err c) old new = ⊥
 
   -- the line's print stands behind what was printed before
-  abbrev pub LinePrinted : List Line → Line → Print → Print → Type 0
+  abbrev pub LinePrinted : List Line → Line → Printer → Printer → Type 0
   LinePrinted before x old new = (s : List ℕ) × LinePrints p w x.form (before ++ (x ∷ [])) x s × Adds s old new
 
   -- the lines that were read behind the logic, and what they printed
-  pub record Along (file : List ℕ) (begun : Print) (reader : Reader) (before : List Line) (desk : Desk) (print : Print) : Type 0 where
+  pub record Along (file : List ℕ) (begun : Printer) (reader : Reader) (before : List Line) (desk : Desk) (print : Printer) : Type 0 where
     pub stands : Stands file reader before
     pub late : Late before
     pub keeping : Keeping before desk
@@ -160,7 +160,7 @@ module _ (p w : ℕ) where
     pub printed : Adds told begun print
 
   -- how a file ends: with its print, or refused
-  abbrev pub Ends : List ℕ → Print → Result (Unit {0}) Cause → ℕ → Print → Type 0
+  abbrev pub Ends : List ℕ → Printer → Result (Unit {0}) Cause → ℕ → Printer → Type 0
   Ends file begun (Ok _) lines print = (t : List ℕ) × PrintOf p w file t × Adds t begun print
   Ends file begun (Err c) lines print = Refuses p w file (lines + 1) c
 

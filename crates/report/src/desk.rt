@@ -16,7 +16,7 @@ use labels::check::check_user;
 use lines::fault::TextFault;
 use lines::form::{AxiomForm, Form, Line};
 use logics::{LogicFault, Record};
-use prints::Print;
+use prints::Printer;
 
 // A sheet, and the users that its file names, in the file's order.
 // kept: places and work area are handed over one by one: a struct of both would hold two `&mut`, and every clause would have to
@@ -78,7 +78,7 @@ impl Desk {
     }
 
     // Prints for each user whether the user sees the goal.
-    fn print_sights(&self, goal: (u32, u32), print: &mut Print<'_>) -> Result<(), Cause>
+    fn print_sights(&self, goal: (u32, u32), print: &mut Printer<'_>) -> Result<(), Cause>
         ensures { (p w : ℕ) (before : List AnyLine) → Keeping p w before self.now → Shows p w before goal → Sighted p w before goal result print.old print.new }
     {
         for user in self.users.as_slice() {
@@ -94,7 +94,7 @@ impl Desk {
         line: &Line,
         places: &mut [u64],
         area: &mut [u8],
-        print: &mut Print<'_>,
+        print: &mut Printer<'_>,
     ) -> Result<(), Cause>
         ensures { let p = length places.old in let w = length area.old in (before : List AnyLine) (behind : List ℕ) → line.now.form ≡ GoalLine → Keeping p w before self.old → Steps p w before line.now behind result (Keeping p w (before ++ (line.now ∷ [])) self.new × LinePrinted p w before line.now print.old print.new) }
     {
@@ -112,7 +112,7 @@ impl Desk {
         line: &Line,
         places: &mut [u64],
         area: &mut [u8],
-        print: &mut Print<'_>,
+        print: &mut Printer<'_>,
     ) -> Result<(), Cause>
         ensures { let p = length places.old in let w = length area.old in (before : List AnyLine) (behind : List ℕ) → 3 ≤ section line.now.form → (section line.now.form ≡ 4 → user_count before < 16) → Keeping p w before self.old → Steps p w before line.now behind result (Keeping p w (before ++ (line.now ∷ [])) self.new × LinePrinted p w before line.now print.old print.new) }
     {

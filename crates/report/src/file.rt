@@ -23,7 +23,7 @@ use lines::Found;
 use lines::fault::TextFault;
 use lines::form::{Form, KindForm, Line, LogicForm};
 use logics::{El, Links};
-use prints::Print;
+use prints::Printer;
 use tables::builder::TableBuilder;
 use tables::table::Table;
 
@@ -34,7 +34,7 @@ fn read_sheet(
     reader: &mut Reader<'_>,
     places: &mut [u64],
     area: &mut [u8],
-    print: &mut Print<'_>,
+    print: &mut Printer<'_>,
 ) -> Result<(), Cause>
     ensures { let p = length places.old in let w = length area.old in (file : List ℕ) (before : List AnyLine) → Stands p w file reader.old before → Opened p w before kind logic → Ends p w file print.old result reader.new.lines print.new }
 {
@@ -66,7 +66,7 @@ fn read_logic(
     reader: &mut Reader<'_>,
     places: &mut [u64],
     area: &mut [u8],
-    print: &mut Print<'_>,
+    print: &mut Printer<'_>,
 ) -> Result<(), Cause>
     ensures { let p = length places.old in let w = length area.old in (file : List ℕ) (before : List AnyLine) → KindRead p w file reader.old before kind → Ends p w file print.old result reader.new.lines print.new }
 {
@@ -125,7 +125,7 @@ pub(crate) fn read_file(
     reader: &mut Reader<'_>,
     places: &mut [u64],
     area: &mut [u8],
-    print: &mut Print<'_>,
+    print: &mut Printer<'_>,
 ) -> Result<(), Cause>
     ensures { let p = length places.old in let w = length area.old in (file : List ℕ) → Stands p w file reader.old [] → Ends p w file print.old result reader.new.lines print.new }
 {

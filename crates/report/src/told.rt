@@ -5,7 +5,7 @@ ghost use Rattle.report.specs.Fault.{layer as layer_of, layer_of_sheet, number a
 
 use crate::fault::{Cause, Layer, ReportFault};
 use engine::call::SheetFault;
-use prints::Print;
+use prints::Printer;
 
 // A sheet's fault may be one of its kind or of its logic.
 fn sheet_layer(fault: SheetFault) -> Layer
@@ -72,13 +72,13 @@ impl ReportFault {
 pub fn fault_line(fault: ReportFault, out: &mut [u8]) -> Option<usize>
     ensures { Printed (line_of fault) out.old result out.new }
 {
-    let mut print = Print::new(out);
+    let mut printer = Printer::new(out);
     let (line, layer, number) = fault.told();
-    print.byte(b'F');
-    print.after_comma(line as u64);
-    print.byte(b',');
-    print.text(layer.name());
-    print.after_comma(u64::from(number));
-    print.byte(b'\n');
-    print.length
+    printer.byte(b'F');
+    printer.after_comma(line as u64);
+    printer.byte(b',');
+    printer.text(layer.name());
+    printer.after_comma(u64::from(number));
+    printer.byte(b'\n');
+    printer.print.length
 }

@@ -9,7 +9,7 @@ use crate::fault::{Cause, ReportFault};
 use crate::file::read_file;
 use crate::reader::Reader;
 use lines::fault::TextFault;
-use prints::Print;
+use prints::Printer;
 
 // The most bytes that a file may have.
 const LONGEST_FILE: usize = 16_384;
@@ -30,11 +30,11 @@ fn outcome_of(
         });
     }
     let mut reader = Reader::new(file);
-    let mut print = Print::new(output);
-    let read = read_file(&mut reader, places, area, &mut print);
+    let mut printer = Printer::new(output);
+    let read = read_file(&mut reader, places, area, &mut printer);
     let line = reader.lines + 1;
     read.map_err(|cause| ReportFault { line, cause })?;
-    print.length.ok_or(ReportFault {
+    printer.print.length.ok_or(ReportFault {
         line: 0,
         cause: Cause::Text(TextFault::PrintTooLong),
     })

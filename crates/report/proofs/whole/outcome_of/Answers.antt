@@ -39,4 +39,4 @@ returns c =
     let ends = c.read_file-read.ensures c.args.file.now (c.new-reader.ensures _ _) in
     let done = by_ok c.read_file-read.result c.map_err.result _ c.map_err.ensures.cases c.in_ok-map_err.was in
     let (t, print, adds) = rw done at ends in
-    rw c.ok_or.ensures.value (room_or_not _ _ _ _ (omega arith) c.read_file-read.new.print.length _ t print (given_back (adds.behind [] _ c.new-print.ensures.printed) _ (search rules)))
+    rw c.ok_or.ensures.value (room_or_not _ _ _ _ (omega arith) c.read_file-read.new.print.print.length _ t print (given_back (adds.behind [] _ c.new-printer.ensures.printed) _ (search rules)))

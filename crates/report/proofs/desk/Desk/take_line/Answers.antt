@@ -1,5 +1,5 @@
 use Rattle.std.proofs.Common.{◌≡◌, ℕ, List, [], ◌∷◌, ◌++◌, sym, refl, ap, subst}
-use Rattle.prints.specs.declared.Print.{Print}
+use Rattle.prints.specs.declared.Printer.{Printer}
 use Rattle.prints.proofs.Adding.{adds_none}
 use Rattle.lines.specs.declared.form.Form.{Form}
 use Rattle.lines.specs.declared.form.Line.{Line}
@@ -10,7 +10,7 @@ use Rattle.report.proofs.Stepping.{settles_and}
 use Rattle.report.proofs.desk.Desk.take_line.Goals as goal
 
 -- a line that prints nothing
-silent : (p w : ℕ) (before : List Line) (x : Line) {f : Form} → x.form ≡ f → LinePrints p w f (before ++ (x ∷ [])) x [] → {print : Print} → LinePrinted p w before x print print
+silent : (p w : ℕ) (before : List Line) (x : Line) {f : Form} → x.form ≡ f → LinePrints p w f (before ++ (x ∷ [])) x [] → {print : Printer} → LinePrinted p w before x print print
 silent p w before x is none = ([], subst (λ (h : Form). LinePrints p w h (before ++ (x ∷ [])) x []) (sym is) none, adds_none)
 
 pub returns-in-Axiom : goal.returns-in-Axiom

@@ -1,6 +1,6 @@
 use Rattle.std.proofs.Common.{take}
 use Rattle.prints.specs.Output.{Adds}
-use Rattle.prints.proofs.Print.text.Given as goal
+use Rattle.prints.proofs.Printer.text.Given as goal
 
 -- the bytes so far are added
 abbrev pub invariant-loop-b : goal.invariant-loop-b

@@ -3,8 +3,8 @@ use Rattle.std.proofs.lemmas.Grind.{common_steps}
 use Rattle.prints.specs.Print.{upto}
 use Rattle.prints.proofs.Adding.{adds_none}
 use Rattle.prints.proofs.Lines.{numbers_append, upto_more}
-use Rattle.prints.proofs.Print.axioms.Goals as goal
-use Rattle.prints.proofs.Print.axioms.Goals.{then-contains, else-contains}
+use Rattle.prints.proofs.Printer.axioms.Goals as goal
+use Rattle.prints.proofs.Printer.axioms.Goals.{then-contains, else-contains}
 
 pub loop-place-init : goal.loop-place-init
 unfolding upto

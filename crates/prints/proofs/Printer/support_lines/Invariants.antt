@@ -1,7 +1,7 @@
 use Rattle.std.proofs.Common.{take}
 use Rattle.prints.specs.Print.{support_lines}
 use Rattle.prints.specs.Output.{Adds}
-use Rattle.prints.proofs.Print.support_lines.Given as goal
+use Rattle.prints.proofs.Printer.support_lines.Given as goal
 
 -- the lines so far are added
 abbrev pub invariant-loop-support : goal.invariant-loop-support

@@ -1,6 +1,6 @@
 use Rattle.prints.specs.Print.{numbers, upto}
 use Rattle.prints.specs.Output.{Adds}
-use Rattle.prints.proofs.Print.axioms.Given as goal
+use Rattle.prints.proofs.Printer.axioms.Given as goal
 
 -- the axioms so far are added
 abbrev pub invariant-loop-place : goal.invariant-loop-place
