@@ -1,4 +1,5 @@
 ghost use Rattle.std.specs.Prelude.{◌≡◌};
+ghost use Rattle.engine.specs.Answers.{told};
 ghost use Rattle.engine.specs.Law.{number as number_of};
 ghost use Rattle.engine.specs.declared.call.SheetFault.TheVariants.{Kind, Logic};
 
@@ -77,4 +78,11 @@ impl SheetFault {
             SheetFault::Logic(fault) => fault.number(),
         }
     }
+}
+
+// The number of the refusal, and 0 where the call was accepted.
+pub fn refusal(outcome: Result<Answer, SheetFault>) -> u32
+    ensures { result ≡ (told outcome).0 }
+{
+    outcome.err().map_or(0, SheetFault::number)
 }

@@ -139,7 +139,8 @@ impl<K: LabelKind, L: Logic> Sheet<K, L> {
         ensures { Obeys K.meaning L.meaning (Boundary goal) (answer Bound result) self.now self.now }
     {
         take_goal(&self.logic, goal)?;
-        self.rows.lookup(goal).ok_or(SheetFault::NotPublished)
+        let boundary = self.rows.lookup(goal).ok_or(SheetFault::NotPublished)?;
+        Ok(boundary)
     }
 
     // May the user draw the goal? By the row's boundary alone.
@@ -182,7 +183,8 @@ impl<K: LabelKind, L: Logic> Sheet<K, L> {
         let all = self.axioms.in_force();
         let records = self.axioms.records();
         let found = find_supports(&self.logic, records.as_slice(), all, goal, places, area);
-        found.ok_or(SheetFault::MoreSupports)
+        let number = found.ok_or(SheetFault::MoreSupports)?;
+        Ok(number)
     }
 
     // The meet of the labels of a set of axioms; of none, the top.
