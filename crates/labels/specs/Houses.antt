@@ -49,12 +49,19 @@ join_answer rows e a b = rw e (λ la lb. max_least a b _ la lb (entry_of max a b
 abbrev pub is_table : (ℕ → ℕ → ℕ) → List (List ℕ) → Bool
 is_table f = square 12 (λ a b x. nat_eq x (by_parts f a b))
 
--- and a table that passes it answers for each two labels
+-- a table that passes it answers for each two numbers
+pub meet_tested : (rows : List (List ℕ)) → T (is_table min rows) → (a b : ℕ) → Meets house a b (slice_index (slice_index_or rows a []) b)
+meet_tested rows t = meet_answer rows (square_is 12 (by_parts min) rows t)
+
+pub join_tested : (rows : List (List ℕ)) → T (is_table max rows) → (a b : ℕ) → Joins house a b (slice_index (slice_index_or rows a []) b)
+join_tested rows t = join_answer rows (square_is 12 (by_parts max) rows t)
+
+-- and so for each two labels
 pub meet_entry : (rows : List (List ℕ)) → T (is_table min rows) → (a b : ℕ) → a < 12 → b < 12 → Greatest house a b (slice_index (slice_index_or rows a []) b)
-meet_entry rows t a b = (meet_answer rows (square_is 12 (by_parts min) rows t) a b).0
+meet_entry rows t a b = (meet_tested rows t a b).0
 
 pub join_entry : (rows : List (List ℕ)) → T (is_table max rows) → (a b : ℕ) → a < 12 → b < 12 → Least house a b (slice_index (slice_index_or rows a []) b)
-join_entry rows t a b = (join_answer rows (square_is 12 (by_parts max) rows t) a b).0
+join_entry rows t a b = (join_tested rows t a b).0
 
 pub house_lawful : Lawful house
 house_lawful = record {
