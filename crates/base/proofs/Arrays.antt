@@ -1,5 +1,5 @@
--- Arrays that a closure makes, element by element, where no call changes the closure.
-use Rattle.std.proofs.Common.{◌≡◌, ℕ, zero, suc, ◌+◌, ◌<◌, ◌≤◌, List, get_or, sym, subst, arith}
+-- Arrays that a closure makes, element by element, where no call changes the closure, and lists that are written entry by entry.
+use Rattle.std.proofs.Common.{◌≡◌, ℕ, zero, suc, ◌+◌, ◌<◌, ◌≤◌, List, length, get_or, set, sym, subst, arith, get_or-set_other, get_or-set_same}
 use Rattle.std.proofs.Math.Decide.{ℕ_discrete}
 use Rattle.std.specs.Fn.{Called}
 use Rattle.std.specs.Array.{IsFromFnResult, IsFromFnResultFrom, IsMapOf, MapsFrom}
@@ -34,3 +34,12 @@ module _ {F A B : Type 0} (g : Mut F (A × Unit {0}) B) (P : A → B → Type 0)
 
   pub map_same : (xs : List A) (ys : List B) (n : ℕ) → IsMapOf g f xs ys n → (k : ℕ) (d : A) (e : B) → k < n → P (get_or xs k d) (get_or ys k e)
   map_same xs ys n made k d e l = maps xs ys 0 n made.each k d e (omega arith) (omega arith)
+
+-- a rule of the entries below i, once entry i has been written by it
+pub fill_more : {A : Type 0} (P : ℕ → A → Type 0) (xs : List A) (i : ℕ) (v d : A) → i < length xs
+    → ((k : ℕ) → k < i → P k (get_or xs k d)) → P i v → (k : ℕ) → k < i + 1 → P k (get_or (set xs i v) k d)
+fill_more {A} P xs i v d within done here k h =
+    elim (ℕ_discrete k i) [
+      | yes e ↦ subst (λ (x : ℕ). P x (get_or (set xs i v) x d)) (sym e) (rw (get_or-set_same xs i v d within) here)
+      | no ne ↦ rw (get_or-set_other xs i k v d ne) (done k (omega arith))
+    ]

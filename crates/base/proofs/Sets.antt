@@ -199,3 +199,7 @@ pub subset_lt : (a b i : ℕ) → Subset a b → Has b i → (Has a i → ⊥) �
 subset_lt a b i sub in_b not_a =
     let ne : a ≡ b → ⊥ = λ e. not_a (subst (λ (x : ℕ). Has x i) (sym e) in_b) in
     omega (arith, subset_le a b sub)
+
+-- a place of a set, as a part of its number
+pub has_le : (s i : ℕ) → Has s i → 2 ^ i ≤ s
+has_le s i h = subset_le (2 ^ i) s (λ k p. subst (λ (x : ℕ). Has s x) (sym ((has_single i k).0 p)) h)

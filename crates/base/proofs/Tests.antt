@@ -1,5 +1,5 @@
 -- Tests of the code, as the statements that they decide.
-use Rattle.std.proofs.Common.{◌≡◌, ℕ, ◌<◌, ◌≤◌, Bool, true, false, T, eqb, ltb, leb, Some, None, Option, refl, le→leb, eqb→eq, ltb→lt, lt→ltb, leb→le, MatchOption}
+use Rattle.std.proofs.Common.{◌≡◌, ℕ, ◌<◌, ◌≤◌, Bool, true, false, ◌&&◌, T, eqb, ltb, leb, Some, None, Option, refl, le→leb, eqb→eq, ltb→lt, lt→ltb, leb→le, MatchOption}
 use lib.Dec.{eqb_refl}
 use Rattle.base.specs.Words.{Iff}
 
@@ -19,6 +19,19 @@ passed e = rw e tt
 pub is_true : (b : Bool) → T b → b ≡ true
 is_true true t = refl
 is_true false t = absurd t
+
+-- one that fails does not pass
+pub failed : {b : Bool} → b ≡ false → T b → ⊥
+failed e t = rw e at t
+
+-- a test of two parts passes where each of them does
+pub and_left : (a b : Bool) → T (a && b) → T a
+and_left true b t = tt
+and_left false b t = t
+
+pub and_right : (a b : Bool) → T (a && b) → T b
+and_right true b t = t
+and_right false b t = absurd t
 
 pub both_fail : {P Q : Type 0} → (P → ⊥) → (Q → ⊥) → Iff P Q
 both_fail f g = (λ p. absurd (f p), λ q. absurd (g q))

@@ -3,3 +3,4 @@ pub mod Canonical
 pub mod Walks
 pub mod Selections
 pub mod Marking
+pub mod Scrubs

@@ -1,7 +1,15 @@
 // The work area: bytes that are cleared, and then ticked one by one.
-ghost use Rattle.std.specs.Prelude.{◌≡◌, ◌<◌, length, slice_index, slice_set};
+ghost use Rattle.std.specs.Prelude.{◌≡◌, ◌<◌, length, replicate, slice_index, slice_set};
 ghost use Rattle.std.specs.Bool.{MatchBool};
 ghost use Rattle.logics.specs.WorkArea.{Ticked, Inferred, Settled};
+
+// Makes all bytes zero.
+// kept beside `fill`: which bytes are cleared is said at one place, where an edit can leave one out
+pub(crate) fn clear(cells: &mut [u8])
+    ensures { cells.new ≡ replicate (length cells.old) 0 }
+{
+    cells.fill(0);
+}
 
 // Ticks a cell, and says whether it was blank.
 pub(crate) fn tick(area: &mut [u8], place: usize) -> bool

@@ -5,7 +5,7 @@ ghost use Rattle.logics.specs.Entailment.{Each, Goal, Monotone};
 ghost use Rattle.logics.specs.Plan.{Plan, Answered, Begun, Blank, KeptSound, Ready, Round, Laid};
 ghost use Rattle.logics.specs.declared.Record.{Record as Axiom};
 
-use crate::area::tick;
+use crate::area::{clear, tick};
 use crate::marked::Marked;
 use crate::{Logic, Record};
 
@@ -103,9 +103,9 @@ impl<S: Saturates> Logic for S {
             return false;
         }
         let cells = &mut area[..self.cells()];
-        cells.fill(0);
+        clear(cells);
         let found = reach(self, &given, goal, cells);
-        cells.fill(0);
+        clear(cells);
         found
     }
 }
