@@ -95,6 +95,8 @@ impl<S: Saturates> Logic for S {
         self.poses(goal)
     }
 
+    // a hint: one body for every logic is no longer so small that it is put into its callers by itself
+    #[inline]
     fn follows(&self, records: &[Record], marks: u64, goal: (u32, u32), area: &mut [u8]) -> bool {
         let Some(given) = Marked::new(records, marks) else {
             return false;
