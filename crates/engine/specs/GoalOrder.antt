@@ -3,7 +3,7 @@ use Rattle.std.proofs.Common.{◌≡◌, ℕ, ◌⊎◌, ap₂, inl, inr, arith}
 use native.Mathlib.Decide.{dec_lt}
 use Rattle.logics.specs.Entailment.{Goal}
 use Rattle.ordered.specs.Lists.{Ranking}
-use Rattle.ordered.specs.Rankings.{total_ranking, ranking_by}
+use Rattle.ordered.specs.Rankings.{AnyRank, total_ranking, total_ranks, ranking_by, ranks_by}
 use Rattle.engine.specs.declared.page.Row.{Row}
 use Rattle.engine.specs.Law.{Smaller}
 use Rattle.engine.specs.Rows.{ByGoal}
@@ -43,3 +43,10 @@ smaller_ranking = total_ranking smaller_total smaller_irreflexive smaller_transi
 
 pub row_ranking : Ranking ByGoal
 row_ranking = ranking_by (λ (r : Row). r.goal) smaller_ranking
+
+-- any two goals rank in some way, and so any two rows
+pub smaller_ranks : AnyRank Smaller
+smaller_ranks = total_ranks smaller_total smaller_irreflexive
+
+pub row_ranks : AnyRank ByGoal
+row_ranks = ranks_by (λ (r : Row). r.goal) smaller_ranks

@@ -9,7 +9,7 @@ use Rattle.base.specs.Bits.{Has}
 use Rattle.base.specs.Words.{Iff}
 use Rattle.base.proofs.Sets.{has_or_not, has_zero, has_first, has_next, has_below, same_set, some_place}
 use Rattle.ordered.specs.Lists.{Ranking}
-use Rattle.ordered.specs.Rankings.{total_ranking}
+use Rattle.ordered.specs.Rankings.{AnyRank, total_ranking, total_ranks}
 use Rattle.ordered.specs.Sets.{Before}
 
 under_lack : (d t n : ℕ) → n % 2 ≡ d → ((i : ℕ) → i < t → Has (n / 2) i → ⊥) → (i : ℕ) → i < under d t → Has n i → ⊥
@@ -98,6 +98,10 @@ before_transitive s t u b c =
 -- the laws of the order
 pub before_ranking : Ranking Before
 before_ranking = total_ranking before_total before_irreflexive before_transitive
+
+-- any two sets rank in some way
+pub before_ranks : AnyRank Before
+before_ranks = total_ranks before_total before_irreflexive
 
 -- s comes before t when it holds the smallest place of s ^ t
 pub first_differs : (w s t : ℕ) → s < 2 ^ w → Iff (Has s (count_trailing_zeros w (bit_xor s t))) (Before s t)
